@@ -1,0 +1,5 @@
+pub mod Lists
+pub mod Words
+pub mod Bytes
+pub mod Packing
+pub mod Put

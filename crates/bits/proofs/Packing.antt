@@ -1,0 +1,123 @@
+-- Packing: the bits of packed bytes are the bits that were packed, and fewer than 8 zeros.
+use mathlib.Core.Path.{_≡_, refl, sym, ap, ap₂, _∙_}
+use mathlib.Core.Bool.{Bool, true, false}
+use mathlib.Core.List.{List, [], _∷_, _++_, flatten, append-assoc, append-cancel-right}
+use mathlib.Core.Logic.{_⊎_, inl, inr}
+use Prim.Native.Nat.{ℕ, zero, suc, _+_, _-_, _*_, _%_, _^_, _≤_, _<_}
+use native.Mathlib.Omega.{arith}
+use native.Mathlib.Nat.{zero-add, suc-add, two-pow-succ, mod-eq-of-lt}
+use lib.ListN.{length, getD, drop, replicate, replicate-append-replicate}
+use lib.Seq.{drop-nil, drop-at}
+use Rattle.bits.specs.Bits.{bitOf, wordBits, unpack, worth, top, bytesOf, byteCount, pack, padding}
+use native.Mathlib.Decide.{decLe}
+use Rattle.bits.proofs.Words.{words-length, words-join, words-zero, worth-bit}
+use lib.Pow.{mod-pow-add}
+use Rattle.bits.proofs.Bytes.{unpack-length}
+
+-- the first n bits, zeros where they end before
+unfoldable pub fit : ℕ → List Bool → List Bool
+fit zero b = []
+fit (suc n) [] = false ∷ fit n []
+fit (suc n) (a ∷ b) = a ∷ fit n b
+
+pub top-below : (n : ℕ) (b : List Bool) → top n b < 2 ^ n
+unfolding top
+top-below zero b = omega arith
+top-below (suc n) [] = omega (arith, two-pow-succ n, top-below n [])
+top-below (suc n) (false ∷ b) = omega (arith, two-pow-succ n, top-below n b)
+top-below (suc n) (true ∷ b) = omega (arith, two-pow-succ n, top-below n b)
+
+fit-nil : (n : ℕ) → fit n [] ≡ replicate n false
+unfolding fit
+fit-nil zero = refl
+fit-nil (suc n) = ap (λ (l : List Bool). false ∷ l) (fit-nil n)
+
+fit-add : (n k : ℕ) (b : List Bool) → fit (n + k) b ≡ fit n b ++ fit k (drop n b)
+unfolding fit
+fit-add zero k b = ap (λ (x : ℕ). fit x b) (zero-add k)
+fit-add (suc n) k [] =
+    ap (λ (x : ℕ). fit x []) (suc-add n k)
+    ∙ ap (λ (l : List Bool). false ∷ l) (fit-add n k [] ∙ ap (λ (l : List Bool). fit n [] ++ fit k l) (drop-nil n))
+fit-add (suc n) k (a ∷ b) = ap (λ (x : ℕ). fit x (a ∷ b)) (suc-add n k) ∙ ap (λ (l : List Bool). a ∷ l) (fit-add n k b)
+
+pub fit-long : (b : List Bool) (z : ℕ) → fit (length b + z) b ≡ b ++ replicate z false
+unfolding fit
+fit-long [] z = ap (λ (x : ℕ). fit x []) (zero-add z) ∙ fit-nil z
+fit-long (a ∷ b) z = ap (λ (x : ℕ). fit x (a ∷ b)) (suc-add (length b) z) ∙ ap (λ (l : List Bool). a ∷ l) (fit-long b z)
+
+-- ## Unpacking what was packed
+
+-- the bits of a number are those that made it
+words-top : (n : ℕ) (b : List Bool) → wordBits n (top n b) ≡ fit n b
+unfolding fit top
+words-top zero b = words-zero 0
+words-top (suc n) [] = words-zero (suc n) ∙ sym (fit-nil (suc n))
+words-top (suc n) (a ∷ b) =
+    let e : suc n ≡ 1 + n = omega arith in
+    ap (λ (k : ℕ). wordBits k (worth a * 2 ^ n + top n b)) e ∙ words-join 1 n (worth a) (top n b) (top-below n b)
+    ∙ ap₂ (λ (u v : List Bool). u ++ v) (one a) (words-top n b)
+  where
+    one : (a : Bool) → wordBits 1 (worth a) ≡ a ∷ []
+    one false = unfold wordBits bitOf in refl
+    one true = unfold wordBits bitOf in refl
+
+pub unpack-bytes : (c : ℕ) (b : List Bool) → unpack (bytesOf c b) ≡ fit (8 * c) b
+unfolding bytesOf unpack flatten fit
+unpack-bytes zero b = refl
+unpack-bytes (suc c) b =
+    let e : 8 + 8 * c ≡ 8 * suc c = omega arith in
+    ap₂ (λ (u v : List Bool). u ++ v) (words-top 8 b) (unpack-bytes c (drop 8 b))
+    ∙ sym (fit-add 8 (8 * c) b) ∙ ap (λ (n : ℕ). fit n b) e
+
+pub padding-below : (n : ℕ) → padding n < 8
+unfolding padding
+padding-below n = omega arith
+
+-- Unpacking a packing gives the bits and the padding
+pub unpack-pack : (b : List Bool) → unpack (pack b) ≡ b ++ replicate (padding (length b)) false
+unfolding pack padding
+unpack-pack b =
+    unpack-bytes (byteCount (length b)) b ∙ ap (λ (n : ℕ). fit n b) (omega arith) ∙ fit-long b (8 * byteCount (length b) - length b)
+
+-- Two lists of bits with equal packings differ in trailing zeros only, fewer than 8
+pub pack-apart : (a b : List Bool) → pack a ≡ pack b
+    → (k : ℕ) × (k < 8) × ((a ≡ b ++ replicate k false) ⊎ (b ≡ a ++ replicate k false))
+pack-apart a b e =
+    let i : ℕ = padding (length a) in
+    let j : ℕ = padding (length b) in
+    let same : a ++ replicate i false ≡ b ++ replicate j false = sym (unpack-pack a) ∙ ap unpack e ∙ unpack-pack b in
+    elim (decLe i j) [
+      | yes h ↦ (j - i, omega (arith, padding-below (length b)), inl (shorter a b i j h same))
+      | no h ↦ (i - j, omega (arith, padding-below (length a)), inr (shorter b a j i (omega arith) (sym same)))
+    ]
+  where
+    shorter : (a b : List Bool) (i j : ℕ) → i ≤ j → a ++ replicate i false ≡ b ++ replicate j false → a ≡ b ++ replicate (j - i) false
+    shorter a b i j h e =
+        let n : j - i + i ≡ j = omega arith in
+        append-cancel-right a (b ++ replicate (j - i) false) (replicate i false)
+        (e ∙ ap (λ (k : ℕ). b ++ replicate k false) (sym n) ∙ ap (λ (l : List Bool). b ++ l) (sym (replicate-append-replicate (j - i) i false))
+        ∙ sym (append-assoc b (replicate (j - i) false) (replicate i false)))
+
+-- ## Packing what was unpacked
+
+pub top-words : (n x : ℕ) (t : List Bool) → top n (wordBits n x ++ t) ≡ x % 2 ^ n
+unfolding top wordBits
+top-words zero x t = omega arith
+top-words (suc n) x t =
+    let e : 1 + n ≡ suc n = omega arith in
+    ap₂ (λ (u v : ℕ). u * 2 ^ n + v) (worth-bit x n) (top-words n x t) ∙ sym (mod-pow-add x 1 n) ∙ ap (λ (k : ℕ). x % 2 ^ k) e
+
+bytes-unpack : (s : List ℕ) → ((i : ℕ) → getD s i 0 < 256) → bytesOf (length s) (unpack s) ≡ s
+unfolding bytesOf unpack flatten
+bytes-unpack [] h = refl
+bytes-unpack (b ∷ s) h =
+    ap₂ (λ (x : ℕ) (l : List ℕ). x ∷ l)
+    (top-words 8 b (unpack s) ∙ mod-eq-of-lt (h 0))
+    (ap (bytesOf (length s)) (drop-at (wordBits 8 b) (unpack s) 8 (words-length 8 b)) ∙ bytes-unpack s (λ i. h (suc i)))
+
+-- Packing the bits of bytes gives the bytes
+pub pack-unpack : (s : List ℕ) → ((i : ℕ) → getD s i 0 < 256) → pack (unpack s) ≡ s
+unfolding pack
+pack-unpack s h =
+    let e : byteCount (length (unpack s)) ≡ length s = omega (arith, unpack-length s) in
+    ap (λ (c : ℕ). bytesOf c (unpack s)) e ∙ bytes-unpack s h

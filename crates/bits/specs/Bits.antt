@@ -1,0 +1,58 @@
+-- Bits in bytes: a list of bytes as a list of bits, and back. A bit is a Bool, true for a one.
+use mathlib.Core.Bool.{Bool, true, false}
+use mathlib.Core.List.{List, [], _∷_, _++_, map, flatten}
+use Prim.Native.Nat.{ℕ, zero, suc, _+_, _-_, _*_, _/_, _%_, _^_}
+use lib.Dec.{eqb}
+use lib.ListN.{length, take, drop, replicate}
+
+-- ## From bytes to bits
+
+-- The bit of x that is worth 2 ^ k
+unfoldable pub bitOf : ℕ → ℕ → Bool
+bitOf x k = eqb (x / 2 ^ k % 2) 1
+
+-- The n low bits of x, the highest first
+unfoldable pub wordBits : ℕ → ℕ → List Bool
+wordBits zero x = []
+wordBits (suc n) x = bitOf x n ∷ wordBits n x
+
+-- The bits of a list of bytes, from the top of each byte
+unfoldable pub unpack : List ℕ → List Bool
+unpack bytes = flatten (map (wordBits 8) bytes)
+
+-- ## From bits to bytes
+
+abbrev pub worth : Bool → ℕ
+worth false = 0
+worth true = 1
+
+-- The number of n bits, the first worth 2 ^ (n - 1); bits that are missing are zeros
+unfoldable pub top : ℕ → List Bool → ℕ
+top zero b = 0
+top (suc n) [] = 0
+top (suc n) (a ∷ b) = worth a * 2 ^ n + top n b
+
+-- The first c bytes of a list of bits, the first bit of each worth 128
+unfoldable pub bytesOf : ℕ → List Bool → List ℕ
+bytesOf zero b = []
+bytesOf (suc c) b = top 8 b ∷ bytesOf c (drop 8 b)
+
+-- How many bytes hold n bits
+abbrev pub byteCount : ℕ → ℕ
+byteCount n = (n + 7) / 8
+
+-- The bytes that hold a list of bits, the last one filled up with zeros
+unfoldable pub pack : List Bool → List ℕ
+pack b = bytesOf (byteCount (length b)) b
+
+-- How many zeros fill the last byte (paper 01: the fill)
+unfoldable pub padding : ℕ → ℕ
+padding n = 8 * byteCount n - n
+
+-- ## Bits put into a buffer
+
+-- A list of bits with new ones after its first n, then zeros to the end of the last byte that they reach, then what stood there
+unfoldable pub putAt : ℕ → List Bool → List Bool → List Bool
+unfolding padding
+putAt n new old =
+    take n old ++ (new ++ (replicate (padding (n + length new)) false ++ drop (8 * byteCount (n + length new)) old))

@@ -1,0 +1,81 @@
+// A byte slice as a list of bits, the top bit of each byte first.
+ghost use mathlib.Core.Path.{_≡_};
+ghost use mathlib.Core.Bool.{false};
+ghost use mathlib.Core.List.{_++_};
+ghost use Prim.Native.Nat.{_+_, _-_, _*_, _^_, _≤_, _<_};
+ghost use lib.ListN.{length, drop, getD, set};
+ghost use Rattle.bits.specs.Bits.{wordBits, unpack, bytesOf, putAt};
+
+// Bit k of the slice; false past its end.
+pub fn bit(s: &[u8], k: usize) -> bool
+    ensures { λ r. ⌜ r ≡ getD (unpack (now (s .entry))) k false ⌝ }
+{
+    let q = k >> 3;
+    if q < s.len() {
+        let b = s[q];
+        let low = 7 - (k & 7);
+        b >> low & 1 == 1
+    } else {
+        false
+    }
+}
+
+// The byte b with its bit of worth 2 ^ low set to v.
+fn with_bit(b: u8, low: usize, v: bool) -> u8
+    requires { ⌜ low < 8 ⌝ }
+    ensures { λ r. ⌜ wordBits 8 r ≡ set (wordBits 8 b) (7 - low) v ⌝ }
+{
+    let mask: u8 = 1 << low;
+    if v { b | mask } else { b & !mask }
+}
+
+// Bit k of the slice becomes v; where k is past its end, nothing changes.
+pub fn set_bit(s: &mut [u8], k: usize, v: bool)
+    ensures { λ r. ⌜ unpack (now (s .exit)) ≡ set (unpack (now (s .entry))) k v ⌝ }
+{
+    let q = k >> 3;
+    if q < s.len() {
+        let b = s[q];
+        s[q] = with_bit(b, 7 - (k & 7), v);
+    }
+}
+
+fn wide(x: u8) -> u64
+    ensures { λ r. ⌜ (r ≡ x) × (r < 256) ⌝ }
+{
+    x as u64
+}
+
+// The n low bytes of w, the highest first, at the front of the slice.
+fn store(s: &mut [u8], w: u64, n: usize)
+    requires { ⌜ (n ≤ 8) × (n ≤ length (now s)) ⌝ }
+    ensures { λ r. ⌜ now (s .exit) ≡ bytesOf n (wordBits (8 * n) w) ++ drop n (now (s .entry)) ⌝ }
+{
+    for i in 0..n {
+        let shifted = w >> (8 * (n - 1 - i));
+        s[i] = (shifted % 256) as u8;
+    }
+}
+
+// The len low bits of word after the first o bits of the slice, then zeros to the end of the byte. Whoever writes has seen that they fit.
+pub fn put_word(s: &mut [u8], o: usize, word: u64, len: usize)
+    requires { ⌜ (o < 8) × (1 ≤ len) × (len ≤ 56) × (word < 2 ^ len) × (o + len ≤ 8 * length (now s)) ⌝ }
+    ensures { λ r. ⌜ unpack (now (s .exit)) ≡ putAt o (wordBits len word) (unpack (now (s .entry))) ⌝ }
+{
+    let first = wide(s[0]);
+    let kept = first >> (8 - o);
+    let n = o + len;
+    let count = (n + 7) / 8;
+    let pad = 8 * count - n;
+    let all = (kept << len | word) << pad;
+    store(s, all, count);
+}
+
+// The same after any number of bits, through the part of the slice from the byte with the first free bit.
+pub fn put_at(s: &mut [u8], at: usize, word: u64, len: usize)
+    requires { ⌜ (1 ≤ len) × (len ≤ 56) × (word < 2 ^ len) × (at + len ≤ 8 * length (now s)) ⌝ }
+    ensures { λ r. ⌜ unpack (now (s .exit)) ≡ putAt at (wordBits len word) (unpack (now (s .entry))) ⌝ }
+{
+    let k = at / 8;
+    put_word(&mut s[k..], at % 8, word, len);
+}
