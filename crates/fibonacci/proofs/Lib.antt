@@ -1,0 +1,8 @@
+pub mod Computed
+pub mod Runs
+pub mod Numeration
+pub mod Numbers
+pub mod Parse
+pub mod Rows
+pub mod Demand
+pub mod Lookup

@@ -1,0 +1,77 @@
+-- The tables' rule, carried to each row and to each entry.
+use mathlib.Core.Path.{_≡_, refl, sym, ap, _∙_}
+use mathlib.Core.Bool.{Bool, false}
+use mathlib.Core.List.{List}
+use Prim.Native.Nat.{ℕ, zero, suc, _+_, _-_, _≤_, _<_}
+use native.Mathlib.Omega.{arith}
+use native.Mathlib.Nat.{add-zero, zero-add}
+use native.Mathlib.Decide.{decLe}
+use lib.Dec.{leb}
+use lib.ListN.{getD, replicate, getD-replicate}
+use borrow.Author.Tests.{le-leb, lt-leb, leb-false}
+use Rattle.fibonacci.specs.Code.{valuesFrom, past, F, first}
+use Rattle.fibonacci.specs.Tables.{Order, largest, needed, tableRow, tableOf}
+use Rattle.fibonacci.proofs.Numeration.{F-rises}
+use Rattle.fibonacci.proofs.Numbers.{first-rises}
+
+-- entry i of a list of values
+values-at : {A : Type 0} (f : ℕ → A) (j n i : ℕ) (z : A) → i < n → getD (valuesFrom f j n) i z ≡ f (j + i)
+values-at f j zero i z h = absurd (omega arith)
+values-at f j (suc n) zero z h = ap f (sym (add-zero j))
+values-at f j (suc n) (suc i) z h = values-at f (suc j) n i z (omega arith) ∙ ap f (omega arith)
+
+-- the row of an order in a table of tables
+pub row-at : (f : ℕ → ℕ → ℕ) (m : ℕ) (z : List ℕ) → Order m → getD (tableOf f) (m - 2) z ≡ tableRow (f m)
+unfolding tableOf
+row-at f m z h =
+    let e : 2 + (m - 2) ≡ m = omega arith in
+    values-at (λ m. tableRow (f m)) 2 5 (m - 2) z (omega arith) ∙ ap (λ (m : ℕ). tableRow (f m)) e
+
+-- an entry of a row
+pub entry-at : (f : ℕ → ℕ) (j z : ℕ) → j < 47 → getD (tableRow f) j z ≡ needed (f j)
+unfolding tableRow
+entry-at f j z h = values-at (λ j. needed (f j)) 0 47 j z h ∙ ap (λ (i : ℕ). needed (f i)) (zero-add j)
+
+-- ## Past the row
+
+-- a value of each order that passes the largest number, by one computation over the orders
+over : (f : ℕ → ℕ → ℕ) → valuesFrom (λ m. leb (f m 47) largest) 2 5 ≡ replicate 5 false → (m : ℕ) → Order m → largest < f m 47
+over f e m h =
+    let k : 2 + (m - 2) ≡ m = omega arith in
+    leb-false (f m 47) largest
+    (ap (λ (m : ℕ). leb (f m 47) largest) (sym k) ∙ sym (values-at (λ m. leb (f m 47) largest) 2 5 (m - 2) false (omega arith))
+    ∙ ap (λ (l : List Bool). getD l (m - 2) false) e ∙ getD-replicate 5 (m - 2) false false (omega arith))
+
+pub F-over : (m : ℕ) → Order m → largest < F m 47
+unfolding F past
+F-over = over F refl
+
+pub first-over : (m : ℕ) → Order m → largest < first m 47
+unfolding first F past
+first-over = over first refl
+
+-- ## What a look-up gives
+
+pub needed-is : (x : ℕ) → x ≤ largest → needed x ≡ x
+unfolding needed
+needed-is x h = rw (le-leb x largest h, needed)
+
+pub needed-not : (x : ℕ) → largest < x → needed x ≡ 0
+unfolding needed
+needed-not x h = rw (lt-leb x largest h, needed)
+
+module _ (m : ℕ) (h : Order m) where
+  -- every position value that is needed stands in the row
+  pub position-within : (j : ℕ) → F m j ≤ largest → j < 47
+  position-within j b =
+      elim (decLe 47 j) [
+        | yes l ↦ absurd (omega (arith, F-over m h, F-rises m (omega arith) l))
+        | no l ↦ omega arith
+      ]
+
+  pub position-at : (j z : ℕ) → F m j ≤ largest → getD (tableRow (F m)) j z ≡ F m j
+  position-at j z b = entry-at (F m) j z (position-within j b) ∙ needed-is (F m j) b
+
+  -- past the row no first number is needed
+  pub first-past : (d : ℕ) → 47 ≤ d → needed (first m d) ≡ 0
+  first-past d l = needed-not (first m d) (omega (arith, first-over m h, first-rises m l))

@@ -1,0 +1,146 @@
+-- The numeration system: s digits without m ones in a row are exactly the numbers below F(s + 1), and the greedy digits are the way back.
+use mathlib.Core.Path.{_≡_, refl, sym, ap, _∙_}
+use mathlib.Core.Bool.{Bool, true, false}
+use mathlib.Core.List.{List, [], _∷_, _++_, reverseAux}
+use Prim.Native.Nat.{ℕ, zero, suc, _+_, _-_, _≤_, _<_}
+use native.Mathlib.Omega.{arith}
+use native.Mathlib.Nat.{zero-add}
+use native.Mathlib.Decide.{decLe, le-ind}
+use lib.ListN.{length, take, replicate}
+use borrow.Author.Tests.{le-leb, lt-leb}
+use Rattle.fibonacci.specs.Code.{sum, past, F, value, lead, runs, digits}
+use Rattle.fibonacci.proofs.Runs.{runs-false, runs-true, runs-more, runs-grow}
+
+-- ## Sums of position values: the first three laws carry everything
+
+-- F(n) + F(n - 1) + .. , i values
+unfoldable pub part : ℕ → ℕ → ℕ → ℕ
+part m n i = sum (take i (past m n))
+
+pub F-suc : (m n : ℕ) → F m (suc n) ≡ part m n m
+unfolding F part past
+F-suc m n = refl
+
+pub part-suc : (m n i : ℕ) → part m (suc n) (suc i) ≡ F m (suc n) + part m n i
+unfolding F part past
+part-suc m n i = refl
+
+sum-zeros : (i m : ℕ) → sum (take i (replicate m 0)) ≡ 0
+sum-zeros zero m = refl
+sum-zeros (suc i) zero = refl
+sum-zeros (suc i) (suc m) = omega (arith, sum-zeros i m)
+
+pub part-zero : (m i : ℕ) → 1 ≤ i → part m 0 i ≡ 1
+unfolding part past
+part-zero m zero h = absurd (omega arith)
+part-zero m (suc i) h = omega (arith, sum-zeros i m)
+
+pub part-none : (m n : ℕ) → part m n 0 ≡ 0
+unfolding part
+part-none m n = refl
+
+pub part-head : (m n i : ℕ) → F m n ≤ part m n (suc i)
+unfolding F past
+part-head m zero i = omega (arith, part-zero m (suc i) (omega arith))
+part-head m (suc n) i = omega (arith, part-suc m n i)
+
+-- what never falls from one place to the next never falls
+pub rising : (f : ℕ → ℕ) → ((n : ℕ) → f n ≤ f (suc n)) → {j k : ℕ} → j ≤ k → f j ≤ f k
+rising f up {j} {k} h = le-ind (λ k. f j ≤ f k) (omega arith) (λ k l ih. omega (arith, up k)) k h
+
+pub F-rises : (m : ℕ) → 1 ≤ m → {j k : ℕ} → j ≤ k → F m j ≤ F m k
+F-rises zero h = absurd (omega arith)
+F-rises (suc m) h = rising (F (suc m)) (λ n. omega (arith, F-suc (suc m) n, part-head (suc m) n m))
+
+pub F-pos : (m n : ℕ) → 1 ≤ m → 1 ≤ F m n
+unfolding F past
+F-pos m n h = F-rises m h {j = 0} {k = n} (omega arith)
+
+-- ## Greedy digits
+
+pub digits-big : (m s r : ℕ) (t : List Bool) → F m (suc s) ≤ r → digits m (suc s) r t ≡ digits m s (r - F m (suc s)) (true ∷ t)
+unfolding digits
+digits-big m s r t h = rw (le-leb _ _ h, digits)
+
+pub digits-small : (m s r : ℕ) (t : List Bool) → r < F m (suc s) → digits m (suc s) r t ≡ digits m s r (false ∷ t)
+unfolding digits
+digits-small m s r t h = rw (lt-leb _ _ h, digits)
+
+pub digits-append : (m s r : ℕ) (t u : List Bool) → digits m s r (t ++ u) ≡ digits m s r t ++ u
+unfolding digits
+digits-append m zero r t u = refl
+digits-append m (suc s) r t u =
+    elim (decLe (F m (suc s)) r) [
+      | yes big ↦ rw (digits-big m s r (t ++ u) big, digits-big m s r t big) (digits-append m s _ (true ∷ t) u)
+      | no small ↦ rw (digits-small m s r (t ++ u) (omega arith), digits-small m s r t (omega arith)) (digits-append m s _ (false ∷ t) u)
+    ]
+
+pub digits-length : (m s r : ℕ) (t : List Bool) → length (digits m s r t) ≡ s + length t
+unfolding digits
+digits-length m zero r t = omega arith
+digits-length m (suc s) r t =
+    elim (decLe (F m (suc s)) r) [
+      | yes big ↦ rw (digits-big m s r t big) (omega (arith, digits-length m s (r - F m (suc s)) (true ∷ t)))
+      | no small ↦ rw (digits-small m s r t (omega arith)) (omega (arith, digits-length m s r (false ∷ t)))
+    ]
+
+-- ## Greedy digits make no new run, and have the value that they were made of
+
+-- Before a string that begins with k ones there may stand digits that end in fewer than i ones, where k + i is m: s digits in part m s i ways.
+
+some : (m s i : ℕ) → 1 ≤ part m s i → 1 ≤ i
+some m s zero h = omega (arith, part-none m s)
+some m s (suc i) h = omega arith
+
+pub digits-good : (m s i r : ℕ) (t : List Bool) → lead t + i ≡ m → r < part m s i
+    → (runs m (digits m s r t) ≡ runs m t) × (value m 1 (digits m s r t) ≡ r + value m (suc s) t)
+unfolding digits value
+digits-good m zero i r t h b = (refl, omega (arith, part-zero m i (some m 0 i (omega arith))))
+digits-good m (suc s) zero r t h b = absurd (omega (arith, part-none m (suc s)))
+digits-good m (suc s) (suc i) r t h b =
+    elim (decLe (F m (suc s)) r) [
+      | yes big ↦
+          let more : 1 ≤ i = some m s i (omega (arith, part-suc m s i)) in
+          let ih = digits-good m s i (r - F m (suc s)) (true ∷ t) (omega arith) (omega (arith, part-suc m s i)) in
+          rw (digits-big m s r t big) (ih .0 ∙ runs-true m t (omega arith), omega (arith, ih .1))
+      | no small ↦
+          let ih = digits-good m s m r (false ∷ t) (zero-add m) (omega (arith, F-suc m s)) in
+          rw (digits-small m s r t (omega arith)) (ih .0 ∙ runs-false m t (omega arith), ih .1)
+    ]
+
+-- ## Digits that make no new run are the greedy digits of their value
+
+-- what the digits h, the highest first, do before t
+pub record Digits (m i : ℕ) (h t : List Bool) : Type 0 where
+  pub v : ℕ
+  pub below : v < part m (length h) i
+  pub worth : value m 1 (reverseAux h t) ≡ v + value m (suc (length h)) t
+  pub greedy : digits m (length h) v t ≡ reverseAux h t
+
+pub digits-of : (m : ℕ) (h : List Bool) (i : ℕ) (t : List Bool) → 1 ≤ i → lead t + i ≡ m → runs m (reverseAux h t) ≡ runs m t → Digits m i h t
+unfolding digits value
+digits-of m [] i t p e q = record { v = 0; below = omega (arith, part-zero m i p); worth = omega arith; greedy = refl }
+digits-of m (false ∷ h) zero t p e q = absurd (omega arith)
+digits-of m (false ∷ h) (suc i) t p e q =
+    let ih = digits-of m h m (false ∷ t) (omega arith) (zero-add m) (q ∙ sym (runs-false m t (omega arith))) in
+    record {
+      v = ih .v;
+      below = omega (arith, ih .below, part-suc m (length h) i, F-suc m (length h));
+      worth = ih .worth;
+      greedy = digits-small m (length h) (ih .v) t (omega (arith, ih .below, F-suc m (length h))) ∙ ih .greedy;
+    }
+digits-of m (true ∷ h) zero t p e q = absurd (omega arith)
+digits-of m (true ∷ h) (suc i) t p e q =
+    let more : 1 ≤ i =
+    elim (decLe m (suc (lead t))) [
+      | yes g ↦ absurd (omega (arith, runs-more m t g, runs-grow m h (true ∷ t)))
+      | no l ↦ omega arith
+    ] in
+    let ih = digits-of m h i (true ∷ t) more (omega arith) (q ∙ sym (runs-true m t (omega arith))) in
+    record {
+      v = F m (suc (length h)) + ih .v;
+      below = omega (arith, ih .below, part-suc m (length h) i);
+      worth = omega (arith, ih .worth);
+      greedy = digits-big m (length h) (F m (suc (length h)) + ih .v) t (omega arith)
+          ∙ ap (λ (x : ℕ). digits m (length h) x (true ∷ t)) (omega arith) ∙ ih .greedy;
+    }

@@ -1,0 +1,27 @@
+-- The constant tables of position values and first numbers, as far as the largest number needs them.
+use mathlib.Core.Bool.{true, false}
+use mathlib.Core.List.{List}
+use Prim.Native.Nat.{ℕ, _≤_}
+use lib.Dec.{leb}
+use Rattle.fibonacci.specs.Code.{valuesFrom}
+
+-- The orders in use: 2, 3, 4, 5 and 6
+abbrev pub Order : ℕ → Type 0
+Order m = (2 ≤ m) × (m ≤ 6)
+
+-- The largest number of a row
+abbrev pub largest : ℕ
+largest = 4294967295
+
+-- What a table holds for a value: the value, or 0 where it is above the largest number and never needed
+unfoldable pub needed : ℕ → ℕ
+needed x = elim (leb x largest) [ true ↦ x | false ↦ 0 ]
+
+-- The row of a table for the values f(0), f(1), .. : 47 entries, as many as any order has that are needed
+unfoldable pub tableRow : (ℕ → ℕ) → List ℕ
+tableRow f = valuesFrom (λ j. needed (f j)) 0 47
+
+-- The table of tables: a row for each order from 2 to 6
+unfoldable pub tableOf : (ℕ → ℕ → ℕ) → List (List ℕ)
+unfolding tableRow
+tableOf f = valuesFrom (λ m. tableRow (f m)) 2 5

@@ -1,0 +1,50 @@
+// The Fibonacci codes of order 2 to 6: position values and first numbers, by constant tables.
+ghost use mathlib.Core.Path.{_≡_};
+ghost use Prim.Native.Nat.{_≤_};
+ghost use Rattle.fibonacci.specs.Code.{F, first};
+ghost use Rattle.fibonacci.specs.Tables.{Order, largest, needed, tableRow};
+
+mod tables;
+
+use tables::FIRST_NUMBERS;
+use tables::POSITIONS;
+
+// The position values F(0), F(1), .. of an order. A caller takes its order's row once and looks values up in it. Who calls has checked the order.
+pub fn positions(order: usize) -> [u32; 47]
+    requires { ⌜ Order order ⌝ }
+    ensures { λ r. ⌜ r ≡ tableRow (F order) ⌝ }
+{
+    let i = order - 2;
+    POSITIONS[i]
+}
+
+// The first numbers of an order, by the bits before the last ones.
+pub fn first_numbers(order: usize) -> [u32; 47]
+    requires { ⌜ Order order ⌝ }
+    ensures { λ r. ⌜ r ≡ tableRow (first order) ⌝ }
+{
+    let i = order - 2;
+    FIRST_NUMBERS[i]
+}
+
+// F(j), looked up in its order's row.
+pub fn position(row: &[u32; 47], order: usize, j: usize) -> u64
+    requires { ⌜ Order order × (now row ≡ tableRow (F order)) × (F order j ≤ largest) ⌝ }
+    ensures { λ r. ⌜ r ≡ F order j ⌝ }
+{
+    wide(row[j])
+}
+
+// The first number whose codeword has d bits before its last ones, looked up in its order's row; 0 where it is above 4,294,967,295.
+pub fn first_number(row: &[u32; 47], order: usize, d: usize) -> u64
+    requires { ⌜ Order order × (now row ≡ tableRow (first order)) ⌝ }
+    ensures { λ r. ⌜ r ≡ needed (first order d) ⌝ }
+{
+    if d < 47 { wide(row[d]) } else { 0 }
+}
+
+fn wide(x: u32) -> u64
+    ensures { λ r. ⌜ r ≡ x ⌝ }
+{
+    x as u64
+}
