@@ -9,7 +9,7 @@ mod tables;
 use tables::FIRST_NUMBERS;
 use tables::POSITIONS;
 
-// The position values F(0), F(1), .. of an order. A caller takes its order's row once and looks values up in it. Who calls has checked the order.
+// The position values F(0), F(1), .. of an order: a row that a caller takes once and looks values up in. Every operation checks its order before.
 pub fn positions(order: usize) -> [u32; 47]
     requires { ⌜ Order order ⌝ }
     ensures { λ r. ⌜ r ≡ tableRow (F order) ⌝ }
@@ -18,7 +18,7 @@ pub fn positions(order: usize) -> [u32; 47]
     POSITIONS[i]
 }
 
-// The first numbers of an order, by the bits before the last ones.
+// The first numbers of an order, by how many bits stand before the last ones. Every operation checks its order before.
 pub fn first_numbers(order: usize) -> [u32; 47]
     requires { ⌜ Order order ⌝ }
     ensures { λ r. ⌜ r ≡ tableRow (first order) ⌝ }
@@ -27,7 +27,7 @@ pub fn first_numbers(order: usize) -> [u32; 47]
     FIRST_NUMBERS[i]
 }
 
-// F(j), looked up in its order's row.
+// F(j), looked up in its order's row. Whoever values digits shows that the number they belong to is at most the largest, and so is F(j).
 pub fn position(row: &[u32; 47], order: usize, j: usize) -> u64
     requires { ⌜ Order order × (now row ≡ tableRow (F order)) × (F order j ≤ largest) ⌝ }
     ensures { λ r. ⌜ r ≡ F order j ⌝ }
@@ -35,7 +35,8 @@ pub fn position(row: &[u32; 47], order: usize, j: usize) -> u64
     wide(row[j])
 }
 
-// The first number whose codeword has d bits before its last ones, looked up in its order's row; 0 where it is above 4,294,967,295.
+// The first number whose codeword has d bits before its last ones, looked up in its order's row; 0 where it is above 4,294,967,295. The caller
+// has the row from `first_numbers`.
 pub fn first_number(row: &[u32; 47], order: usize, d: usize) -> u64
     requires { ⌜ Order order × (now row ≡ tableRow (first order)) ⌝ }
     ensures { λ r. ⌜ r ≡ needed (first order d) ⌝ }
