@@ -1,15 +1,16 @@
 -- The bits of a list of bytes: how many, which stands where, and what a changed byte changes.
-use mathlib.Core.Path.{_≡_, refl, sym, ap, _∙_}
+use mathlib.Core.Path.{_≡_, refl, sym, ap, _∙_, subst}
 use mathlib.Core.Bool.{Bool, false}
 use mathlib.Core.List.{List, [], _∷_, _++_, flatten}
-use Prim.Native.Nat.{ℕ, zero, suc, _+_, _-_, _*_, _/_, _%_, _≤_, _<_}
+use Prim.Native.Nat.{ℕ, zero, suc, _+_, _-_, _*_, _/_, _%_, _^_, _≤_, _<_}
 use native.Mathlib.Omega.{arith}
-use lib.ListN.{length, getD, drop, set, length-append, List·getD-append, List·getD-eq-default}
-use lib.Seq.{getD-append-add, set-append-left, set-out, drop-nil, drop-append-add}
+use lib.ListN.{length, getD, take, drop, set, length-append, List·getD-append, List·getD-eq-default}
+use lib.Seq.{take-at, take-append-le, getD-append-add, set-append-left, set-out, take-nil, drop-nil, take-append-add, drop-append-add}
+use lib.Pow.{shr-lt}
 use lib.Bits.{bitAnd, and-mask}
 use Rattle.bits.specs.Bits.{bitOf, wordBits, unpack}
 use Rattle.bits.proofs.Lists.{flatten-map-append, set-append-add}
-use Rattle.bits.proofs.Words.{words-length, words-at}
+use Rattle.bits.proofs.Words.{words-length, words-at, words-split}
 
 pub unpack-append : (s t : List ℕ) → unpack (s ++ t) ≡ unpack s ++ unpack t
 unfolding unpack
@@ -27,6 +28,15 @@ unpack-drop [] (suc n) = sym (drop-nil (8 * suc n))
 unpack-drop (b ∷ s) (suc n) =
     let e : 8 * suc n ≡ length (wordBits 8 b) + 8 * n = omega (arith, words-length 8 b) in
     unpack-drop s n ∙ sym (ap (λ (k : ℕ). drop k (wordBits 8 b ++ unpack s)) e ∙ drop-append-add (wordBits 8 b) (unpack s) (8 * n))
+
+pub unpack-take : (s : List ℕ) (n : ℕ) → unpack (take n s) ≡ take (8 * n) (unpack s)
+unfolding unpack flatten
+unpack-take s zero = refl
+unpack-take [] (suc n) = sym (take-nil (8 * suc n))
+unpack-take (b ∷ s) (suc n) =
+    let e : 8 * suc n ≡ length (wordBits 8 b) + 8 * n = omega (arith, words-length 8 b) in
+    ap (λ (l : List Bool). wordBits 8 b ++ l) (unpack-take s n)
+    ∙ sym (ap (λ (k : ℕ). take k (wordBits 8 b ++ unpack s)) e ∙ take-append-add (wordBits 8 b) (unpack s) (8 * n))
 
 -- ## One bit
 
@@ -51,6 +61,21 @@ bit-at s k h =
 
 pub bit-past : (s : List ℕ) (k : ℕ) → length s ≤ k / 8 → getD (unpack s) k false ≡ false
 bit-past s k h = List·getD-eq-default (unpack s) false (omega (arith, unpack-length s))
+
+pub high-below : (b o : ℕ) → o ≤ 8 → b < 256 → b / 2 ^ (8 - o) < 2 ^ o
+high-below b o h l =
+    let e : 8 ≡ o + (8 - o) = omega arith in
+    shr-lt o (8 - o) (subst (λ (n : ℕ). b < 2 ^ n) e l)
+
+-- the first bits are the high bits of the first byte
+pub first-bits : (s : List ℕ) (o : ℕ) → o ≤ 8 → 1 ≤ length s → wordBits o (getD s 0 0 / 2 ^ (8 - o)) ≡ take o (unpack s)
+unfolding unpack flatten
+first-bits [] o h i = absurd (omega arith)
+first-bits (b ∷ s) o h i =
+    let e : o + (8 - o) ≡ 8 = omega arith in
+    sym (take-at (wordBits o (b / 2 ^ (8 - o))) (wordBits (8 - o) b) o (words-length o (b / 2 ^ (8 - o))))
+    ∙ ap (take o) (sym (words-split o (8 - o) b) ∙ ap (λ (n : ℕ). wordBits n b) e)
+    ∙ sym (take-append-le o (wordBits 8 b) (unpack s) (omega (arith, words-length 8 b)))
 
 -- ## One bit changed
 

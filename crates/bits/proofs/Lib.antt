@@ -3,3 +3,4 @@ pub mod Words
 pub mod Bytes
 pub mod Packing
 pub mod Put
+pub mod Count

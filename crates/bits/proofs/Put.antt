@@ -1,17 +1,17 @@
 -- Bits put into a buffer: by the bytes of a word, through a part of the buffer, and one after the other.
-use mathlib.Core.Path.{_≡_, refl, sym, ap, ap₂, _∙_, subst}
+use mathlib.Core.Path.{_≡_, refl, sym, ap, ap₂, _∙_}
 use mathlib.Core.Bool.{Bool, false}
-use mathlib.Core.List.{List, [], _∷_, _++_, append-assoc, append-nil, flatten}
+use mathlib.Core.List.{List, [], _∷_, _++_, append-assoc, append-nil}
 use Prim.Native.Nat.{ℕ, zero, suc, _+_, _-_, _*_, _/_, _%_, _^_, _≤_, _<_}
 use native.Mathlib.Omega.{arith}
 use lib.ListN.{length, getD, take, drop, replicate, length-append, length-replicate, length-drop, take-append-drop, drop-of-length-le}
-use lib.Seq.{take-at, take-all, drop-at, drop-drop, length-take-le, take-append-le, take-append-add, drop-append-add}
-use lib.Pow.{shl-exact, shr-lt, pow-add}
+use lib.Seq.{take-at, take-all, drop-at, drop-drop, length-take-le, take-append-add, drop-append-add}
+use lib.Pow.{shl-exact, pow-add}
 use lib.Bits.{bitOr, or-shifted}
 use lib.Arith.{digits-lt}
 use Rattle.bits.specs.Bits.{wordBits, unpack, bytesOf, byteCount, padding, putAt}
 use Rattle.bits.proofs.Words.{words-length, words-split, words-join, words-padded}
-use Rattle.bits.proofs.Bytes.{unpack-append, unpack-length, unpack-drop}
+use Rattle.bits.proofs.Bytes.{unpack-append, unpack-length, unpack-drop, high-below, first-bits}
 use Rattle.bits.proofs.Packing.{fit, fit-long, unpack-bytes, top-words}
 
 -- ## The bytes of a word
@@ -49,16 +49,6 @@ unpack-word n w =
 
 -- ## A word after the first bits of a buffer
 
--- the bits of a byte that are kept
-kept-bits : (s : List ℕ) (o : ℕ) → o ≤ 8 → 1 ≤ length s → wordBits o (getD s 0 0 / 2 ^ (8 - o)) ≡ take o (unpack s)
-unfolding unpack flatten
-kept-bits [] o h i = absurd (omega arith)
-kept-bits (b ∷ s) o h i =
-    let e : o + (8 - o) ≡ 8 = omega arith in
-    sym (take-at (wordBits o (b / 2 ^ (8 - o))) (wordBits (8 - o) b) o (words-length o (b / 2 ^ (8 - o))))
-    ∙ ap (take o) (sym (words-split o (8 - o) b) ∙ ap (λ (n : ℕ). wordBits n b) e)
-    ∙ sym (take-append-le o (wordBits 8 b) (unpack s) (omega (arith, words-length 8 b)))
-
 -- the bytes of the kept bits, the word and the padding, at the front
 put-front : (s : List ℕ) (o len count pad word : ℕ) → o ≤ 8 → 1 ≤ length s → word < 2 ^ len
     → count ≡ byteCount (o + len) → pad ≡ 8 * count - (o + len)
@@ -71,7 +61,7 @@ put-front s o len count pad word h i hw ec ep =
     let front : unpack (wordBytes count all) ≡ (take o (unpack s) ++ wordBits len word) ++ replicate pad false =
     unpack-word count all ∙ ap (λ (k : ℕ). wordBits k all) n ∙ words-padded (o + len) pad (kept * 2 ^ len + word)
     ∙ ap (λ (l : List Bool). l ++ replicate pad false)
-    (words-join o len kept word hw ∙ ap (λ (l : List Bool). l ++ wordBits len word) (kept-bits s o h i)) in
+    (words-join o len kept word hw ∙ ap (λ (l : List Bool). l ++ wordBits len word) (first-bits s o h i)) in
     unpack-append (wordBytes count all) (drop count s)
     ∙ ap₂ (λ (u v : List Bool). u ++ v) front (unpack-drop s count)
     ∙ rw (words-length len word, ← ec, ← ep) (simp append-assoc)
@@ -94,8 +84,7 @@ module _ (s : List ℕ) (o len word first : ℕ) where
   put-stored fits (e, b) y =
       let n : ℕ = byteCount (o + len) in
       let pad : ℕ = 8 * n - (o + len) in
-      let width : 8 ≡ o + (8 - o) = omega arith in
-      let kept : first / 2 ^ (8 - o) < 2 ^ o = shr-lt o (8 - o) (subst (λ (n : ℕ). first < 2 ^ n) width b) in
+      let kept : first / 2 ^ (8 - o) < 2 ^ o = high-below first o (omega arith) b in
       ap unpack y
       ∙ ap (λ (x : ℕ). unpack (wordBytes n x ++ drop n s)) (shifted o len pad (first / 2 ^ (8 - o)) word kept (fits .3) (omega arith))
       ∙ ap (λ (f : ℕ). unpack (wordBytes n ((f / 2 ^ (8 - o) * 2 ^ len + word) * 2 ^ pad) ++ drop n s)) e

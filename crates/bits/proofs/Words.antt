@@ -54,7 +54,7 @@ bit-pow (suc p) (suc k) =
     bit-half (2 ^ suc p) k ∙ ap (λ (y : ℕ). bitOf y k) half ∙ bit-pow p k ∙ sym (eqb·suc-suc p k)
 
 -- a digit is 0 or 1: what holds of both holds of it
-digit : (P : ℕ → Type 0) → P 0 → P 1 → (x : ℕ) → P (x % 2)
+pub digit : (P : ℕ → Type 0) → P 0 → P 1 → (x : ℕ) → P (x % 2)
 digit P a b x = go (x % 2) (omega arith)
   where
     go : (d : ℕ) → d < 2 → P d

@@ -1,5 +1,5 @@
 -- Bits in bytes: a list of bytes as a list of bits, and back. A bit is a Bool, true for a one.
-use mathlib.Core.Bool.{Bool, true, false}
+use mathlib.Core.Bool.{Bool, true, false, not}
 use mathlib.Core.List.{List, [], _∷_, _++_, map, flatten}
 use Prim.Native.Nat.{ℕ, zero, suc, _+_, _-_, _*_, _/_, _%_, _^_}
 use lib.Dec.{eqb}
@@ -56,3 +56,14 @@ unfoldable pub putAt : ℕ → List Bool → List Bool → List Bool
 unfolding padding
 putAt n new old =
     take n old ++ (new ++ (replicate (padding (n + length new)) false ++ drop (8 * byteCount (n + length new)) old))
+
+-- ## Counting
+
+abbrev pub is : Bool → Bool → Bool
+is true a = a
+is false a = not a
+
+-- How often the bit v stands in a list of bits
+unfoldable pub count : Bool → List Bool → ℕ
+count v [] = 0
+count v (a ∷ b) = worth (is v a) + count v b

@@ -1,10 +1,10 @@
 // A byte slice as a list of bits, the top bit of each byte first.
 ghost use mathlib.Core.Path.{_≡_};
-ghost use mathlib.Core.Bool.{false};
+ghost use mathlib.Core.Bool.{true, false};
 ghost use mathlib.Core.List.{_++_};
-ghost use Prim.Native.Nat.{_+_, _-_, _*_, _^_, _≤_, _<_};
-ghost use lib.ListN.{length, drop, getD, set};
-ghost use Rattle.bits.specs.Bits.{wordBits, unpack, bytesOf, putAt};
+ghost use Prim.Native.Nat.{_+_, _-_, _*_, _/_, _^_, _≤_, _<_};
+ghost use lib.ListN.{length, take, drop, getD, set};
+ghost use Rattle.bits.specs.Bits.{wordBits, unpack, bytesOf, putAt, count};
 
 // Bit k of the slice; false past its end.
 pub fn bit(s: &[u8], k: usize) -> bool
@@ -79,4 +79,78 @@ pub fn put_at(s: &mut [u8], at: usize, word: u64, len: usize)
 {
     let k = at / 8;
     put_word(&mut s[k..], at % 8, word, len);
+}
+
+// Two bytes of the slice as one number, the first the higher.
+fn two_bytes(s: &[u8], i: usize) -> u64
+    requires { ⌜ i + 2 ≤ length (now s) ⌝ }
+    ensures { λ r. ⌜ (r < 2 ^ 16) × (wordBits 16 r ≡ unpack (take 2 (drop i (now (s .entry))))) ⌝ }
+{
+    wide(s[i]) * 256 + wide(s[i + 1])
+}
+
+fn four_bytes(s: &[u8], i: usize) -> u64
+    requires { ⌜ i + 4 ≤ length (now s) ⌝ }
+    ensures { λ r. ⌜ (r < 2 ^ 32) × (wordBits 32 r ≡ unpack (take 4 (drop i (now (s .entry))))) ⌝ }
+{
+    two_bytes(s, i) * 65536 + two_bytes(s, i + 2)
+}
+
+// Eight bytes of the slice as a word, the first bit on top. The caller stays inside the slice.
+pub fn word(s: &[u8], i: usize) -> u64
+    requires { ⌜ i + 8 ≤ length (now s) ⌝ }
+    ensures { λ r. ⌜ wordBits 64 r ≡ unpack (take 8 (drop i (now (s .entry)))) ⌝ }
+{
+    four_bytes(s, i) * 4294967296 + four_bytes(s, i + 4)
+}
+
+// How many ones the whole words among the first q bytes have.
+fn ones_of_words(s: &[u8], q: usize) -> usize
+    requires { ⌜ (q ≤ length (now s)) × (8 * q < 2 ^ 64) ⌝ }
+    ensures { λ r. ⌜ r ≡ count true (unpack (take (8 * (q / 8)) (now (s .entry)))) ⌝ }
+{
+    let mut n: usize = 0;
+    let mut i: usize = 0;
+    while i + 8 <= q {
+        n += u64::count_ones(word(s, i)) as usize;
+        i += 8;
+    }
+    n
+}
+
+// How many ones the bytes from `from` up to but without `to` have.
+fn ones_of_bytes(s: &[u8], from: usize, to: usize) -> usize
+    requires { ⌜ (from ≤ to) × (to ≤ length (now s)) × (8 * to < 2 ^ 64) ⌝ }
+    ensures { λ r. ⌜ count true (unpack (take from (now (s .entry)))) + r ≡ count true (unpack (take to (now (s .entry)))) ⌝ }
+{
+    let mut n: usize = 0;
+    let mut i = from;
+    while i < to {
+        n += u64::count_ones(wide(s[i])) as usize;
+        i += 1;
+    }
+    n
+}
+
+// How many of the first e bits are ones. The caller stays inside the slice.
+pub fn ones_before(s: &[u8], e: usize) -> usize
+    requires { ⌜ e ≤ 8 * length (now s) ⌝ }
+    ensures { λ r. ⌜ r ≡ count true (take e (unpack (now (s .entry)))) ⌝ }
+{
+    let q = e / 8;
+    let j = e % 8;
+    let whole = ones_of_words(s, q) + ones_of_bytes(s, 8 * (q / 8), q);
+    if j == 0 {
+        return whole;
+    }
+    let last = wide(s[q]) >> (8 - j);
+    whole + u64::count_ones(last) as usize
+}
+
+// How many of the k bits from bit `from` on are ones. The caller stays inside the slice.
+pub fn ones(s: &[u8], from: usize, k: usize) -> usize
+    requires { ⌜ (from + k ≤ 8 * length (now s)) × (from + k < 2 ^ 64) ⌝ }
+    ensures { λ r. ⌜ r ≡ count true (take k (drop from (unpack (now (s .entry))))) ⌝ }
+{
+    ones_before(s, from + k) - ones_before(s, from)
 }
