@@ -4,10 +4,11 @@ use mathlib.Core.Bool.{Bool, true, false}
 use mathlib.Core.List.{List, [], _∷_, _++_, append-nil, flatten}
 use Prim.Native.Nat.{ℕ, zero, suc, _+_, _-_, _*_, _/_, _%_, _^_, _≤_, _<_}
 use native.Mathlib.Omega.{arith}
-use native.Mathlib.Nat.{add-zero, mod-lt, mod-eq-of-lt}
+use native.Mathlib.Nat.{add-zero, add-mul, mul-assoc, mod-lt, mod-eq-of-lt}
 use lib.ListN.{length, getD, take, drop, length-take, length-drop}
-use lib.Seq.{take-add, drop-drop, drop-cons, getD-drop}
-use lib.Pow.{pow-pos, mod-pow-add}
+use lib.Seq.{take-add, drop-cons, getD-drop}
+use lib.Pow.{pow-pos, pow-add, shl-lt, shl-exact, mod-pow-add}
+use lib.Bits.{bitOr, or-shifted}
 use lib.Count.{ones, onesIn, ones-cat}
 use Rattle.bits.specs.Bits.{wordBits, unpack, worth, is, count}
 use Rattle.bits.proofs.Words.{digit, worth-bit, words-join}
@@ -19,12 +20,64 @@ pub byte-bits : (s : List ℕ) (i : ℕ) → i < length s → wordBits 8 (getD s
 unfolding unpack flatten
 byte-bits s i h = sym (ap (λ (l : List ℕ). unpack (take 1 l)) (drop-cons s i 0 h) ∙ append-nil (wordBits 8 (getD s i 0)))
 
--- n bytes from i on, and n more
-pub join-bits : (n : ℕ) (s : List ℕ) (i x y : ℕ) → y < 2 ^ (8 * n) → wordBits (8 * n) x ≡ unpack (take n (drop i s)) → wordBits (8 * n) y ≡ unpack (take n (drop (i + n) s))
-    → wordBits (8 * n + 8 * n) (x * 2 ^ (8 * n) + y) ≡ unpack (take (n + n) (drop i s))
-join-bits n s i x y h p q =
-    words-join (8 * n) (8 * n) x y h ∙ ap₂ (λ (u v : List Bool). u ++ v) p (q ∙ ap (λ (l : List ℕ). unpack (take n l)) (sym (drop-drop n i s)))
-    ∙ sym (unpack-append (take n (drop i s)) (take n (drop n (drop i s)))) ∙ ap unpack (sym (take-add n n (drop i s)))
+-- one byte more, as the machine puts it below the others
+or-byte : (x a b k : ℕ) → x ≡ a * 2 ^ (8 + k) → b < 256 → 8 + k ≤ 64 → bitOr x (b * 2 ^ k % 2 ^ 64) ≡ (a * 256 + b) * 2 ^ k
+or-byte x a b k e h l =
+    ap₂ bitOr e (shl-exact 8 k 64 h l) ∙ or-shifted a (8 + k) (b * 2 ^ k) (shl-lt 8 k h)
+    ∙ ap (λ (y : ℕ). a * y + b * 2 ^ k) (pow-add 2 8 k) ∙ ap (λ (y : ℕ). y + b * 2 ^ k) (sym (mul-assoc a 256 (2 ^ k))) ∙ sym (add-mul (a * 256) b (2 ^ k))
+
+bits-byte : (n x b : ℕ) (l : List ℕ) → b < 256 → wordBits n x ≡ unpack l → wordBits (n + 8) (x * 256 + b) ≡ unpack (l ++ (b ∷ []))
+unfolding unpack flatten
+bits-byte n x b l h e =
+    words-join n 8 x b h ∙ ap₂ (λ (u v : List Bool). u ++ v) e (sym (append-nil (wordBits 8 b))) ∙ sym (unpack-append l (b ∷ []))
+
+-- n elements from i + j on
+abbrev elements : List ℕ → ℕ → ℕ → ℕ → List ℕ
+elements s i j zero = []
+elements s i j (suc n) = getD s (i + j) 0 ∷ elements s i (suc j) n
+
+elements-of : (s : List ℕ) (i j n : ℕ) → i + j + n ≤ length s → take n (drop (i + j) s) ≡ elements s i j n
+elements-of s i j zero h = refl
+elements-of s i j (suc n) h =
+    let e : suc (i + j) ≡ i + suc j = omega arith in
+    ap (take (suc n)) (drop-cons s (i + j) 0 (omega arith))
+    ∙ ap (λ (l : List ℕ). getD s (i + j) 0 ∷ l) (ap (λ (k : ℕ). take n (drop k s)) e ∙ elements-of s i (suc j) n (omega arith))
+
+-- x is byte k of s
+abbrev IsByte : List ℕ → ℕ → ℕ → Type 0
+IsByte s k x = (x ≡ getD s k 0) × (x < 256)
+
+module _ (s : List ℕ) (i : ℕ) (within : i + 8 ≤ length s) {a b c d e f g h : ℕ} where
+  pub word-bits : IsByte s i a → IsByte s (i + 1) b → IsByte s (i + 2) c → IsByte s (i + 3) d → IsByte s (i + 4) e → IsByte s (i + 5) f → IsByte s (i + 6) g → IsByte s (i + 7) h
+      → wordBits 64 (bitOr (bitOr (bitOr (bitOr (bitOr (bitOr (bitOr (a * 2 ^ 56 % 2 ^ 64) (b * 2 ^ 48 % 2 ^ 64)) (c * 2 ^ 40 % 2 ^ 64)) (d * 2 ^ 32 % 2 ^ 64)) (e * 2 ^ 24 % 2 ^ 64)) (f * 2 ^ 16 % 2 ^ 64)) (g * 2 ^ 8 % 2 ^ 64)) h)
+      ≡ unpack (take 8 (drop i s))
+  unfolding unpack flatten
+  word-bits pa pb pc pd pe pf pg ph =
+      let ab : ℕ = a * 256 + b in
+      let abc : ℕ = ab * 256 + c in
+      let abcd : ℕ = abc * 256 + d in
+      let to-e : ℕ = abcd * 256 + e in
+      let to-f : ℕ = to-e * 256 + f in
+      let to-g : ℕ = to-f * 256 + g in
+      let m1 = shl-exact {a = a} 8 56 64 (pa .1) (omega arith) in
+      let m2 = or-byte _ a b 48 m1 (pb .1) (omega arith) in
+      let m3 = or-byte _ ab c 40 m2 (pc .1) (omega arith) in
+      let m4 = or-byte _ abc d 32 m3 (pd .1) (omega arith) in
+      let m5 = or-byte _ abcd e 24 m4 (pe .1) (omega arith) in
+      let m6 = or-byte _ to-e f 16 m5 (pf .1) (omega arith) in
+      let m7 = or-byte _ to-f g 8 m6 (pg .1) (omega arith) in
+      let w1 : wordBits 8 a ≡ unpack (a ∷ []) = sym (append-nil (wordBits 8 a)) in
+      let w2 = bits-byte 8 a b (a ∷ []) (pb .1) w1 in
+      let w3 = bits-byte 16 ab c (a ∷ b ∷ []) (pc .1) w2 in
+      let w4 = bits-byte 24 abc d (a ∷ b ∷ c ∷ []) (pd .1) w3 in
+      let w5 = bits-byte 32 abcd e (a ∷ b ∷ c ∷ d ∷ []) (pe .1) w4 in
+      let w6 = bits-byte 40 to-e f (a ∷ b ∷ c ∷ d ∷ e ∷ []) (pf .1) w5 in
+      let w7 = bits-byte 48 to-f g (a ∷ b ∷ c ∷ d ∷ e ∷ f ∷ []) (pg .1) w6 in
+      let w8 = bits-byte 56 to-g h (a ∷ b ∷ c ∷ d ∷ e ∷ f ∷ g ∷ []) (ph .1) w7 in
+      let start : i + 0 ≡ i = add-zero i in
+      let these : a ∷ b ∷ c ∷ d ∷ e ∷ f ∷ g ∷ h ∷ [] ≡ elements s i 0 8 = cc in
+      ap (wordBits 64) (ap (λ (x : ℕ). bitOr x h) m7 ∙ or-shifted to-g 8 h (ph .1)) ∙ w8
+      ∙ ap unpack (these ∙ sym (elements-of s i 0 8 (omega arith)) ∙ ap (λ (k : ℕ). take 8 (drop k s)) start)
 
 -- ## Ones
 

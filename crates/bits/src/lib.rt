@@ -81,27 +81,19 @@ pub fn put_at(s: &mut [u8], at: usize, word: u64, len: usize)
     put_word(&mut s[k..], at % 8, word, len);
 }
 
-// Two bytes of the slice as one number, the first the higher.
-fn two_bytes(s: &[u8], i: usize) -> u64
-    requires { ⌜ i + 2 ≤ length (now s) ⌝ }
-    ensures { λ r. ⌜ (r < 2 ^ 16) × (wordBits 16 r ≡ unpack (take 2 (drop i (now (s .entry))))) ⌝ }
-{
-    wide(s[i]) * 256 + wide(s[i + 1])
-}
-
-fn four_bytes(s: &[u8], i: usize) -> u64
-    requires { ⌜ i + 4 ≤ length (now s) ⌝ }
-    ensures { λ r. ⌜ (r < 2 ^ 32) × (wordBits 32 r ≡ unpack (take 4 (drop i (now (s .entry))))) ⌝ }
-{
-    two_bytes(s, i) * 65536 + two_bytes(s, i + 2)
-}
-
-// Eight bytes of the slice as a word, the first bit on top. The caller stays inside the slice.
+// Eight bytes of the slice as a word, the first bit on top. (So written it is compiled to one load.) The caller stays inside the slice.
 pub fn word(s: &[u8], i: usize) -> u64
     requires { ⌜ i + 8 ≤ length (now s) ⌝ }
     ensures { λ r. ⌜ wordBits 64 r ≡ unpack (take 8 (drop i (now (s .entry)))) ⌝ }
 {
-    four_bytes(s, i) * 4294967296 + four_bytes(s, i + 4)
+    wide(s[i]) << 56
+        | wide(s[i + 1]) << 48
+        | wide(s[i + 2]) << 40
+        | wide(s[i + 3]) << 32
+        | wide(s[i + 4]) << 24
+        | wide(s[i + 5]) << 16
+        | wide(s[i + 6]) << 8
+        | wide(s[i + 7])
 }
 
 // How many ones the whole words among the first q bytes have.
