@@ -9,7 +9,7 @@ use Rattle.fibonacci.proofs.position.Statement.{statement}
 use Rattle.fibonacci.proofs.position.Tie as tie
 
 element-copy-out-wide : tie.Need-element-copy-out-wide
-element-copy-out-wide c = position-within (c .args .order) (c .pre .0) (c .args .j) (c .pre .2)
+element-copy-out-wide c = omega (arith, position-within (c .args .order) (c .pre .0) (c .args .j) (c .pre .2))
 
 mul-wide : tie.Need-mul-wide
 mul-wide c = omega (arith, position-within (c .args .order) (c .pre .0) (c .args .j) (c .pre .2))
