@@ -8,7 +8,7 @@ use native.Mathlib.Omega.{arith}
 use native.Mathlib.Nat.{zero-add, suc-add, two-pow-succ, mod-eq-of-lt}
 use lib.ListN.{length, getD, drop, replicate, replicate-append-replicate}
 use lib.Seq.{drop-nil, drop-at}
-use Rattle.bits.specs.Bits.{bitOf, wordBits, unpack, worth, top, bytesOf, byteCount, pack, padding}
+use Rattle.bits.specs.Bits.{bitOf, wordBits, unpack, worth, wordOf, bytesOf, byteCount, pack, padding}
 use native.Mathlib.Decide.{decLe}
 use Rattle.bits.proofs.Words.{words-length, words-join, words-zero, worth-bit}
 use lib.Pow.{mod-pow-add}
@@ -20,12 +20,12 @@ fit zero b = []
 fit (suc n) [] = false ∷ fit n []
 fit (suc n) (a ∷ b) = a ∷ fit n b
 
-pub top-below : (n : ℕ) (b : List Bool) → top n b < 2 ^ n
-unfolding top
-top-below zero b = omega arith
-top-below (suc n) [] = omega (arith, two-pow-succ n, top-below n [])
-top-below (suc n) (false ∷ b) = omega (arith, two-pow-succ n, top-below n b)
-top-below (suc n) (true ∷ b) = omega (arith, two-pow-succ n, top-below n b)
+pub word-below : (n : ℕ) (b : List Bool) → wordOf n b < 2 ^ n
+unfolding wordOf
+word-below zero b = omega arith
+word-below (suc n) [] = omega (arith, two-pow-succ n, word-below n [])
+word-below (suc n) (false ∷ b) = omega (arith, two-pow-succ n, word-below n b)
+word-below (suc n) (true ∷ b) = omega (arith, two-pow-succ n, word-below n b)
 
 fit-nil : (n : ℕ) → fit n [] ≡ replicate n false
 unfolding fit
@@ -48,14 +48,14 @@ fit-long (a ∷ b) z = ap (λ (x : ℕ). fit x (a ∷ b)) (suc-add (length b) z)
 -- ## Unpacking what was packed
 
 -- the bits of a number are those that made it
-words-top : (n : ℕ) (b : List Bool) → wordBits n (top n b) ≡ fit n b
-unfolding fit top
-words-top zero b = words-zero 0
-words-top (suc n) [] = words-zero (suc n) ∙ sym (fit-nil (suc n))
-words-top (suc n) (a ∷ b) =
+bits-of-word : (n : ℕ) (b : List Bool) → wordBits n (wordOf n b) ≡ fit n b
+unfolding fit wordOf
+bits-of-word zero b = words-zero 0
+bits-of-word (suc n) [] = words-zero (suc n) ∙ sym (fit-nil (suc n))
+bits-of-word (suc n) (a ∷ b) =
     let e : suc n ≡ 1 + n = omega arith in
-    ap (λ (k : ℕ). wordBits k (worth a * 2 ^ n + top n b)) e ∙ words-join 1 n (worth a) (top n b) (top-below n b)
-    ∙ ap₂ (λ (u v : List Bool). u ++ v) (one a) (words-top n b)
+    ap (λ (k : ℕ). wordBits k (worth a * 2 ^ n + wordOf n b)) e ∙ words-join 1 n (worth a) (wordOf n b) (word-below n b)
+    ∙ ap₂ (λ (u v : List Bool). u ++ v) (one a) (bits-of-word n b)
   where
     one : (a : Bool) → wordBits 1 (worth a) ≡ a ∷ []
     one false = unfold wordBits bitOf in refl
@@ -66,7 +66,7 @@ unfolding bytesOf unpack flatten fit
 unpack-bytes zero b = refl
 unpack-bytes (suc c) b =
     let e : 8 + 8 * c ≡ 8 * suc c = omega arith in
-    ap₂ (λ (u v : List Bool). u ++ v) (words-top 8 b) (unpack-bytes c (drop 8 b))
+    ap₂ (λ (u v : List Bool). u ++ v) (bits-of-word 8 b) (unpack-bytes c (drop 8 b))
     ∙ sym (fit-add 8 (8 * c) b) ∙ ap (λ (n : ℕ). fit n b) e
 
 pub padding-below : (n : ℕ) → padding n < 8
@@ -100,19 +100,19 @@ pack-apart a b e =
 
 -- ## Packing what was unpacked
 
-pub top-words : (n x : ℕ) (t : List Bool) → top n (wordBits n x ++ t) ≡ x % 2 ^ n
-unfolding top wordBits
-top-words zero x t = omega arith
-top-words (suc n) x t =
+pub word-of-bits : (n x : ℕ) (t : List Bool) → wordOf n (wordBits n x ++ t) ≡ x % 2 ^ n
+unfolding wordOf wordBits
+word-of-bits zero x t = omega arith
+word-of-bits (suc n) x t =
     let e : 1 + n ≡ suc n = omega arith in
-    ap₂ (λ (u v : ℕ). u * 2 ^ n + v) (worth-bit x n) (top-words n x t) ∙ sym (mod-pow-add x 1 n) ∙ ap (λ (k : ℕ). x % 2 ^ k) e
+    ap₂ (λ (u v : ℕ). u * 2 ^ n + v) (worth-bit x n) (word-of-bits n x t) ∙ sym (mod-pow-add x 1 n) ∙ ap (λ (k : ℕ). x % 2 ^ k) e
 
 bytes-unpack : (s : List ℕ) → ((i : ℕ) → getD s i 0 < 256) → bytesOf (length s) (unpack s) ≡ s
 unfolding bytesOf unpack flatten
 bytes-unpack [] h = refl
 bytes-unpack (b ∷ s) h =
     ap₂ (λ (x : ℕ) (l : List ℕ). x ∷ l)
-    (top-words 8 b (unpack s) ∙ mod-eq-of-lt (h 0))
+    (word-of-bits 8 b (unpack s) ∙ mod-eq-of-lt (h 0))
     (ap (bytesOf (length s)) (drop-at (wordBits 8 b) (unpack s) 8 (words-length 8 b)) ∙ bytes-unpack s (λ i. h (suc i)))
 
 -- Packing the bits of bytes gives the bytes

@@ -12,7 +12,7 @@ use lib.Arith.{digits-lt}
 use Rattle.bits.specs.Bits.{wordBits, unpack, bytesOf, byteCount, padding, putAt}
 use Rattle.bits.proofs.Words.{words-length, words-split, words-join, words-padded}
 use Rattle.bits.proofs.Bytes.{unpack-append, unpack-length, unpack-drop, high-below, first-bits}
-use Rattle.bits.proofs.Packing.{fit, fit-long, unpack-bytes, top-words}
+use Rattle.bits.proofs.Packing.{fit, fit-long, unpack-bytes, word-of-bits}
 
 -- ## The bytes of a word
 
@@ -25,7 +25,7 @@ word-bytes n w =
     let e : 8 * suc n ≡ 8 + 8 * n = omega arith in
     let h : List Bool = wordBits 8 (w / 2 ^ (8 * n)) in
     ap (λ (k : ℕ). bytesOf (suc n) (wordBits k w)) e ∙ ap (bytesOf (suc n)) (words-split 8 (8 * n) w)
-    ∙ ap₂ (λ (x : ℕ) (l : List Bool). x ∷ bytesOf n l) (top-words 8 (w / 2 ^ (8 * n)) (wordBits (8 * n) w))
+    ∙ ap₂ (λ (x : ℕ) (l : List Bool). x ∷ bytesOf n l) (word-of-bits 8 (w / 2 ^ (8 * n)) (wordBits (8 * n) w))
     (drop-at h (wordBits (8 * n) w) 8 (words-length 8 (w / 2 ^ (8 * n))))
 
 pub word-length : (n w : ℕ) → length (wordBytes n w) ≡ n

@@ -109,16 +109,16 @@ bit-or = bit-op bitOr max _||_ or-shr (λ x y. omega (arith, or-step x y)) (four
 
 -- ## The bits of a word
 
-pub words-length : (n x : ℕ) → length (wordBits n x) ≡ n
-unfolding wordBits
-words-length zero x = refl
-words-length (suc n) x = ap suc (words-length n x)
-
 pub words-at : (n x i : ℕ) → i < n → getD (wordBits n x) i false ≡ bitOf x (n - 1 - i)
 unfolding wordBits
 words-at zero x i h = absurd (omega arith)
 words-at (suc n) x zero h = ap (bitOf x) (omega arith)
 words-at (suc n) x (suc i) h = words-at n x i (omega arith) ∙ ap (bitOf x) (omega arith)
+
+pub words-length : (n x : ℕ) → length (wordBits n x) ≡ n
+unfolding wordBits
+words-length zero x = refl
+words-length (suc n) x = ap suc (words-length n x)
 
 -- a word y that differs from x in its bit p alone
 module _ (n x y p : ℕ) (v : Bool) (within : p < n) (new : bitOf y p ≡ v) (same : (k : ℕ) → k < n → (p ≡ k → ⊥) → bitOf y k ≡ bitOf x k) where

@@ -27,15 +27,15 @@ worth false = 0
 worth true = 1
 
 -- The number of n bits, the first worth 2 ^ (n - 1); bits that are missing are zeros
-unfoldable pub top : ℕ → List Bool → ℕ
-top zero b = 0
-top (suc n) [] = 0
-top (suc n) (a ∷ b) = worth a * 2 ^ n + top n b
+unfoldable pub wordOf : ℕ → List Bool → ℕ
+wordOf zero b = 0
+wordOf (suc n) [] = 0
+wordOf (suc n) (a ∷ b) = worth a * 2 ^ n + wordOf n b
 
 -- The first c bytes of a list of bits, the first bit of each worth 128
 unfoldable pub bytesOf : ℕ → List Bool → List ℕ
 bytesOf zero b = []
-bytesOf (suc c) b = top 8 b ∷ bytesOf c (drop 8 b)
+bytesOf (suc c) b = wordOf 8 b ∷ bytesOf c (drop 8 b)
 
 -- How many bytes hold n bits
 abbrev pub byteCount : ℕ → ℕ
@@ -51,7 +51,7 @@ padding n = 8 * byteCount n - n
 
 -- ## Bits put into a buffer
 
--- A list of bits with new ones after its first n, then zeros to the end of the last byte that they reach, then what stood there
+-- A list of bits with new bits after its first n, then zeros to the end of the last byte that they reach, then what stood there
 unfoldable pub putAt : ℕ → List Bool → List Bool → List Bool
 unfolding padding
 putAt n new old =

@@ -81,7 +81,8 @@ pub fn put_at(s: &mut [u8], at: usize, word: u64, len: usize)
     put_word(&mut s[k..], at % 8, word, len);
 }
 
-// Eight bytes of the slice as a word, the first bit on top. (So written it is compiled to one load.) The caller stays inside the slice.
+// Eight bytes of the slice as a word, the first bit on top. (So written it is compiled to one load.) Whoever reads by words tests that eight
+// bytes are left.
 pub fn word(s: &[u8], i: usize) -> u64
     requires { ⌜ i + 8 ≤ length (now s) ⌝ }
     ensures { λ r. ⌜ wordBits 64 r ≡ unpack (take 8 (drop i (now (s .entry)))) ⌝ }
@@ -124,7 +125,7 @@ fn ones_of_bytes(s: &[u8], from: usize, to: usize) -> usize
     n
 }
 
-// How many of the first e bits are ones. The caller stays inside the slice.
+// How many of the first e bits are ones. Whoever counts has found the bits in the slice.
 pub fn ones_before(s: &[u8], e: usize) -> usize
     requires { ⌜ e ≤ 8 * length (now s) ⌝ }
     ensures { λ r. ⌜ r ≡ count true (take e (unpack (now (s .entry)))) ⌝ }
@@ -139,8 +140,9 @@ pub fn ones_before(s: &[u8], e: usize) -> usize
     whole + u64::count_ones(last) as usize
 }
 
-// How many of the k bits from bit `from` on are ones. The caller stays inside the slice.
-pub fn ones(s: &[u8], from: usize, k: usize) -> usize
+// How many of the k bits from bit `from` on are ones. The index, whose bitmaps lie inside its bytes and are at most 4,096 bits long, shows that
+// the range does too and that its end fits a number.
+pub fn ones_from(s: &[u8], from: usize, k: usize) -> usize
     requires { ⌜ (from + k ≤ 8 * length (now s)) × (from + k < 2 ^ 64) ⌝ }
     ensures { λ r. ⌜ r ≡ count true (take k (drop from (unpack (now (s .entry))))) ⌝ }
 {

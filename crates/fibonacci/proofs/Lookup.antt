@@ -10,7 +10,7 @@ use lib.Dec.{leb}
 use lib.ListN.{getD, replicate, getD-replicate}
 use borrow.Author.Tests.{le-leb, lt-leb, leb-false}
 use Rattle.fibonacci.specs.Code.{valuesFrom, past, F, first}
-use Rattle.fibonacci.specs.Tables.{Order, largest, needed, tableRow, tableOf}
+use Rattle.fibonacci.specs.Tables.{Order, largest, bounded, tableRow, tableOf}
 use Rattle.fibonacci.proofs.Numeration.{F-rises}
 use Rattle.fibonacci.proofs.Numbers.{first-rises}
 
@@ -28,9 +28,9 @@ row-at f m z h =
     values-at (λ m. tableRow (f m)) 2 5 (m - 2) z (omega arith) ∙ ap (λ (m : ℕ). tableRow (f m)) e
 
 -- an entry of a row
-pub entry-at : (f : ℕ → ℕ) (j z : ℕ) → j < 47 → getD (tableRow f) j z ≡ needed (f j)
+pub entry-at : (f : ℕ → ℕ) (j z : ℕ) → j < 47 → getD (tableRow f) j z ≡ bounded (f j)
 unfolding tableRow
-entry-at f j z h = values-at (λ j. needed (f j)) 0 47 j z h ∙ ap (λ (i : ℕ). needed (f i)) (zero-add j)
+entry-at f j z h = values-at (λ j. bounded (f j)) 0 47 j z h ∙ ap (λ (i : ℕ). bounded (f i)) (zero-add j)
 
 -- ## Past the row
 
@@ -52,16 +52,16 @@ first-over = over first refl
 
 -- ## What a look-up gives
 
-pub needed-is : (x : ℕ) → x ≤ largest → needed x ≡ x
-unfolding needed
-needed-is x h = rw (le-leb x largest h, needed)
+pub bounded-is : (x : ℕ) → x ≤ largest → bounded x ≡ x
+unfolding bounded
+bounded-is x h = rw (le-leb x largest h, bounded)
 
-pub needed-not : (x : ℕ) → largest < x → needed x ≡ 0
-unfolding needed
-needed-not x h = rw (lt-leb x largest h, needed)
+pub bounded-not : (x : ℕ) → largest < x → bounded x ≡ 0
+unfolding bounded
+bounded-not x h = rw (lt-leb x largest h, bounded)
 
 module _ (m : ℕ) (h : Order m) where
-  -- every position value that is needed stands in the row
+  -- every position value up to the largest number stands in the row
   pub position-within : (j : ℕ) → F m j ≤ largest → j < 47
   position-within j b =
       elim (decLe 47 j) [
@@ -70,8 +70,8 @@ module _ (m : ℕ) (h : Order m) where
       ]
 
   pub position-at : (j z : ℕ) → F m j ≤ largest → getD (tableRow (F m)) j z ≡ F m j
-  position-at j z b = entry-at (F m) j z (position-within j b) ∙ needed-is (F m j) b
+  position-at j z b = entry-at (F m) j z (position-within j b) ∙ bounded-is (F m j) b
 
-  -- past the row no first number is needed
-  pub first-past : (d : ℕ) → 47 ≤ d → needed (first m d) ≡ 0
-  first-past d l = needed-not (first m d) (omega (arith, first-over m h, first-rises m l))
+  -- past the row every first number is above the largest number
+  pub first-past : (d : ℕ) → 47 ≤ d → bounded (first m d) ≡ 0
+  first-past d l = bounded-not (first m d) (omega (arith, first-over m h, first-rises m l))

@@ -2,17 +2,17 @@
 use mathlib.Core.Path.{_≡_, refl, sym, ap, _∙_}
 use mathlib.Core.Bool.{Bool, true, false}
 use mathlib.Core.List.{List, [], _∷_, _++_, append-assoc, reverseAux, reverse, reverseAux-eq, reverse-reverse}
-use mathlib.Core.Logic.{_⊎_, inl, inr, _↔_}
+use mathlib.Core.Logic.{inl, inr, _↔_}
 use Prim.Native.Nat.{ℕ, zero, suc, _+_, _-_, _≤_, _<_}
 use native.Mathlib.Omega.{arith}
 use native.Mathlib.Nat.{add-zero, zero-add}
 use native.Mathlib.Decide.{decLe}
-use lib.ListN.{length, length-append, length-replicate, length-reverse}
+use lib.ListN.{length, length-append, length-replicate}
 use lib.Seq.{take-at}
 use borrow.Author.Tests.{le-leb, lt-leb}
-use Rattle.fibonacci.specs.Code.{sum, valuesFrom, past, F, value, first, ones, runs, Codeword, number, digits, size, codeword}
+use Rattle.fibonacci.specs.Code.{sum, valuesFrom, past, F, value, first, ones, runs, Codeword, Form, number, digits, size, codeword}
 use Rattle.fibonacci.proofs.Runs.{runs-false, runs-more, runs-grow, lead-ones, runs-all, runs-cut}
-use Rattle.fibonacci.proofs.Numeration.{rising, F-suc, part-head, F-pos, digits-small, digits-good, digits-of, digits-append, digits-length}
+use Rattle.fibonacci.proofs.Numeration.{rising, F-suc, part-head, F-pos, digits-small, digits-good, free-digits, digits-append, digits-length}
 
 -- ## The first numbers
 
@@ -92,10 +92,6 @@ number-digits m q =
     ap (number m) (sym (append-assoc q (false ∷ []) (ones m))) ∙ number-of m (q ++ (false ∷ []))
     ∙ omega (arith, ap (first m) l, value-append m 1 q (false ∷ []))
 
--- m ones, or digits without m ones in a row, a 0 and m ones
-abbrev pub Form : ℕ → List Bool → Type 0
-Form m w = (w ≡ ones m) ⊎ ((q : List Bool) × (w ≡ q ++ (false ∷ ones m)) × (runs m q ≡ 0))
-
 pub codeword-form : (m : ℕ) (w : List Bool) → 1 ≤ m → Codeword m w → Form m w
 codeword-form m w p c =
     go (reverse (c .stem)) (c .ends ∙ ap (λ (l : List Bool). l ++ ones m) (sym (reverse-reverse (c .stem))) ∙ sym (reverseAux-eq (reverse (c .stem)) (ones m)))
@@ -155,34 +151,26 @@ pub record Place (m : ℕ) (w : List Bool) : Type 0 where
   pub means : number m w ≡ first m d + v
   pub greedy : digits m d v (ones m) ≡ w
 
--- the bits h before the m ones, the highest first
-place-of : (m : ℕ) (h : List Bool) → 1 ≤ m → runs m (reverseAux h (ones m)) ≡ 1
-    → (v : ℕ) × (v < F m (length h)) × (value m 1 (reverseAux h (ones m)) ≡ v + value m (suc (length h)) (ones m)) × (digits m (length h) v (ones m) ≡ reverseAux h (ones m))
-unfolding digits F past value
-place-of m [] p q = (0, omega arith, omega arith, refl)
-place-of m (true ∷ h) p q = absurd (omega (arith, runs-grow m h (true ∷ ones m), runs-more m (ones m) (omega (arith, lead-ones m)), runs-all m p))
-place-of m (false ∷ h) p q =
-    let d = digits-of m h m (false ∷ ones m) p (zero-add m) (q ∙ sym (runs-false m (ones m) p ∙ runs-all m p)) in
-    let b : d .v < F m (suc (length h)) = omega (arith, d .below, F-suc m (length h)) in
-    (d .v, b, d .worth, digits-small m (length h) (d .v) (ones m) b ∙ d .greedy)
-
-pub place : (m : ℕ) (w : List Bool) → 1 ≤ m → Codeword m w → Place m w
-place m w p c =
-    let b = c .stem in
-    let h : List Bool = reverse b in
-    let back : reverseAux h (ones m) ≡ w =
-    reverseAux-eq h (ones m) ∙ ap (λ (l : List Bool). l ++ ones m) (reverse-reverse b) ∙ sym (c .ends) in
-    let s = place-of m h p (ap (runs m) back ∙ c .once) in
-    let l : length h ≡ length b = length-reverse b in
-    let j : suc (length h) ≡ 1 + length b = omega arith in
+pub place : (m : ℕ) (w : List Bool) → 1 ≤ m → Form m w → Place m w
+unfolding digits F past first
+place m w p (inl e) =
     record {
-      d = length h;
-      v = s .0;
-      long = omega (arith, ap length (c .ends), length-append b (ones m), length-replicate m true);
-      below = s .1;
-      means = ap (number m) (c .ends) ∙ number-of m b
-          ∙ omega (arith, value-append m 1 b (ones m), s .2, ap (value m 1) (back ∙ c .ends), ap (λ (x : ℕ). value m x (ones m)) j, ap (first m) l);
-      greedy = s .3 ∙ back;
+      d = 0;
+      v = 0;
+      long = ap length e ∙ length-replicate m true ∙ sym (zero-add m);
+      below = omega arith;
+      means = ap (number m) e ∙ number-one m;
+      greedy = sym e;
+    }
+place m w p (inr (q, e, free)) =
+    let g = free-digits m q p free in
+    record {
+      d = suc (length q);
+      v = value m 1 q;
+      long = omega (arith, ap length e, length-append q (false ∷ ones m), length-replicate m true);
+      below = g .0;
+      means = ap (number m) e ∙ number-digits m q;
+      greedy = digits-small m (length q) (value m 1 q) (ones m) (g .0) ∙ g .1 (false ∷ ones m) ∙ sym e;
     }
 
 place-within : (m : ℕ) (w : List Bool) (a : Place m w) → Within m (number m w) (a .d)
@@ -191,7 +179,7 @@ place-within m w a = omega (arith, a .means, a .below, first-suc m (a .d))
 pub codeword-number : (m : ℕ) (w : List Bool) → 1 ≤ m → Codeword m w → (codeword m (number m w) ≡ w) × (1 ≤ number m w)
 unfolding codeword first
 codeword-number m w p c =
-    let a = place m w p c in
+    let a = place m w p (codeword-form m w p c) in
     let n : ℕ = number m w in
     let pos : 1 ≤ n = omega (arith, a .means, first-rises m {j = 0} {k = a .d} (omega arith)) in
     let rest : n - first m (a .d) ≡ a .v = omega (arith, a .means) in (
@@ -203,7 +191,7 @@ codeword-number m w p c =
 -- The codewords of one length are those of the numbers from its first number up to the next first number
 pub codeword-length : (m : ℕ) (w : List Bool) (d : ℕ) → 1 ≤ m → Codeword m w → (length w ≡ d + m) ↔ Within m (number m w) d
 codeword-length m w d p c =
-    let a = place m w p c in (
+    let a = place m w p (codeword-form m w p c) in (
       λ (l : length w ≡ d + m).
           let e : a .d ≡ d = omega (arith, a .long) in
           rw e at (place-within m w a),

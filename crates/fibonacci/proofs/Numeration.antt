@@ -1,12 +1,12 @@
 -- The numeration system: s digits without m ones in a row are exactly the numbers below F(s + 1), and the greedy digits are the way back.
-use mathlib.Core.Path.{_≡_, refl, sym, ap, _∙_}
+use mathlib.Core.Path.{_≡_, refl, sym, ap, ap₂, _∙_}
 use mathlib.Core.Bool.{Bool, true, false}
-use mathlib.Core.List.{List, [], _∷_, _++_, reverseAux}
+use mathlib.Core.List.{List, [], _∷_, _++_, reverseAux, reverse, reverse-reverse}
 use Prim.Native.Nat.{ℕ, zero, suc, _+_, _-_, _≤_, _<_}
 use native.Mathlib.Omega.{arith}
-use native.Mathlib.Nat.{zero-add}
+use native.Mathlib.Nat.{add-zero, zero-add}
 use native.Mathlib.Decide.{decLe, le-ind}
-use lib.ListN.{length, take, replicate}
+use lib.ListN.{length, take, replicate, length-reverse}
 use borrow.Author.Tests.{le-leb, lt-leb}
 use Rattle.fibonacci.specs.Code.{sum, past, F, value, lead, runs, digits}
 use Rattle.fibonacci.proofs.Runs.{runs-false, runs-true, runs-more, runs-grow}
@@ -144,3 +144,18 @@ digits-of m (true ∷ h) (suc i) t p e q =
       greedy = digits-big m (length h) (F m (suc (length h)) + ih .v) t (omega arith)
           ∙ ap (λ (x : ℕ). digits m (length h) x (true ∷ t)) (omega arith) ∙ ih .greedy;
     }
+
+-- The numeration system: digits without m ones in a row are the greedy digits of their value, which is below F(s + 1) for s of them
+pub free-digits : (m : ℕ) (q : List Bool) → 1 ≤ m → runs m q ≡ 0
+    → (value m 1 q < F m (suc (length q))) × ((t : List Bool) → digits m (length q) (value m 1 q) t ≡ q ++ t)
+unfolding runs value
+free-digits m q p free =
+    let back : reverseAux (reverse q) [] ≡ q = reverse-reverse q in
+    let g = digits-of m (reverse q) m [] p (zero-add m) (ap (runs m) back ∙ free) in
+    let v : g .v ≡ value m 1 q = sym (sym (ap (value m 1) back) ∙ g .worth ∙ add-zero (g .v)) in
+    let l : length (reverse q) ≡ length q = length-reverse q in (
+      omega (arith, g .below, F-suc m (length (reverse q)), ap (λ (k : ℕ). F m (suc k)) l),
+      λ t.
+          digits-append m (length q) (value m 1 q) [] t
+          ∙ ap (λ (b : List Bool). b ++ t) (sym (ap₂ (λ (k x : ℕ). digits m k x []) l v) ∙ g .greedy ∙ back),
+    )

@@ -1,7 +1,7 @@
 -- Where m ones in a row begin.
 use mathlib.Core.Path.{_≡_, refl, ap, _∙_}
 use mathlib.Core.Bool.{Bool, true, false}
-use mathlib.Core.List.{List, [], _∷_, _++_, reverseAux}
+use mathlib.Core.List.{List, [], _∷_, _++_, reverseAux, reverse, reverseAux-eq}
 use Prim.Native.Nat.{ℕ, zero, suc, _+_, _≤_, _<_}
 use native.Mathlib.Omega.{arith}
 use native.Mathlib.Nat.{zero-add}
@@ -30,9 +30,7 @@ runs-after m [] t = omega arith
 runs-after m (a ∷ q) t = omega (arith, runs-after m q t)
 
 pub runs-grow : (m : ℕ) (h t : List Bool) → runs m t ≤ runs m (reverseAux h t)
-unfolding runs
-runs-grow m [] t = omega arith
-runs-grow m (a ∷ h) t = omega (arith, runs-grow m h (a ∷ t))
+runs-grow m h t = rw reverseAux-eq (runs-after m (reverse h) t)
 
 -- ## Ones only
 

@@ -2,6 +2,7 @@
 use mathlib.Core.Path.{_≡_}
 use mathlib.Core.Bool.{Bool, true, false}
 use mathlib.Core.List.{List, [], _∷_, _++_, foldr}
+use mathlib.Core.Logic.{_⊎_}
 use Prim.Native.Nat.{ℕ, zero, suc, _+_, _-_}
 use lib.Dec.{leb}
 use lib.ListN.{length, take, getD, replicate}
@@ -49,6 +50,10 @@ pub record Codeword (m : ℕ) (w : List Bool) : Type 0 where
   pub stem : List Bool
   pub ends : w ≡ stem ++ ones m
 
+-- What every codeword looks like: m ones, or digits without m ones in a row, then a 0, then m ones
+abbrev pub Form : ℕ → List Bool → Type 0
+Form m w = (w ≡ ones m) ⊎ ((q : List Bool) × (w ≡ q ++ (false ∷ ones m)) × (runs m q ≡ 0))
+
 -- ## The number of a codeword
 
 -- The sum of F(j) over the digits j that are one, the leftmost being digit j (paper 01: relative number, from j = 1)
@@ -80,6 +85,6 @@ digits m zero r t = t
 digits m (suc s) r t =
     elim (leb (F m (suc s)) r) [ true ↦ digits m s (r - F m (suc s)) (true ∷ t) | false ↦ digits m s r (false ∷ t) ]
 
--- The codeword of n
+-- The codeword of n, from 1 up. Digit d is the 0 before the m ones, as the relative number is below F(d)
 unfoldable pub codeword : ℕ → ℕ → List Bool
 codeword m n = let d : ℕ = size m n n 0 in digits m d (n - first m d) (ones m)

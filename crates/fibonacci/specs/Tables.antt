@@ -13,13 +13,13 @@ Order m = (2 ≤ m) × (m ≤ 6)
 abbrev pub largest : ℕ
 largest = 4294967295
 
--- What a table holds for a value: the value, or 0 where it is above the largest number and never needed
-unfoldable pub needed : ℕ → ℕ
-needed x = elim (leb x largest) [ true ↦ x | false ↦ 0 ]
+-- What a table holds for a value: the value where it is at most the largest number, and 0 where it is above
+unfoldable pub bounded : ℕ → ℕ
+bounded x = elim (leb x largest) [ true ↦ x | false ↦ 0 ]
 
--- The row of a table for the values f(0), f(1), .. : 47 entries, as many as any order has that are needed
+-- The row of a table for the values f(0), f(1), .. : 47 entries, as many as any order has up to the largest number
 unfoldable pub tableRow : (ℕ → ℕ) → List ℕ
-tableRow f = valuesFrom (λ j. needed (f j)) 0 47
+tableRow f = valuesFrom (λ j. bounded (f j)) 0 47
 
 -- The table of tables: a row for each order from 2 to 6
 unfoldable pub tableOf : (ℕ → ℕ → ℕ) → List (List ℕ)

@@ -2,7 +2,7 @@
 ghost use mathlib.Core.Path.{_≡_};
 ghost use Prim.Native.Nat.{_≤_};
 ghost use Rattle.fibonacci.specs.Code.{F, first};
-ghost use Rattle.fibonacci.specs.Tables.{Order, largest, needed, tableRow};
+ghost use Rattle.fibonacci.specs.Tables.{Order, largest, bounded, tableRow};
 
 mod tables;
 
@@ -27,7 +27,8 @@ pub fn first_numbers(order: usize) -> [u32; 47]
     FIRST_NUMBERS[i]
 }
 
-// F(j), looked up in its order's row. Whoever values digits shows that the number they belong to is at most the largest, and so is F(j).
+// F(j), looked up in its order's row, which the caller has from `positions`. Whoever values a digit goes only as far as a number of that length can be at
+// most 4,294,967,295; F(j) is then, too.
 pub fn position(row: &[u32; 47], order: usize, j: usize) -> u64
     requires { ⌜ Order order × (now row ≡ tableRow (F order)) × (F order j ≤ largest) ⌝ }
     ensures { λ r. ⌜ r ≡ F order j ⌝ }
@@ -39,7 +40,7 @@ pub fn position(row: &[u32; 47], order: usize, j: usize) -> u64
 // has the row from `first_numbers`.
 pub fn first_number(row: &[u32; 47], order: usize, d: usize) -> u64
     requires { ⌜ Order order × (now row ≡ tableRow (first order)) ⌝ }
-    ensures { λ r. ⌜ r ≡ needed (first order d) ⌝ }
+    ensures { λ r. ⌜ r ≡ bounded (first order d) ⌝ }
 {
     if d < 47 { wide(row[d]) } else { 0 }
 }

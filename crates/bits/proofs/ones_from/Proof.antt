@@ -3,8 +3,8 @@ use native.Mathlib.Omega.{arith}
 use borrow.Author.Needs.{needs}
 use Rattle.bits.specs.Bits.{unpack}
 use Rattle.bits.proofs.Count.{count-between}
-use Rattle.bits.proofs.ones.Statement.{statement}
-use Rattle.bits.proofs.ones.Tie as tie
+use Rattle.bits.proofs.ones_from.Statement.{statement}
+use Rattle.bits.proofs.ones_from.Tie as tie
 
 add-ones-before : tie.Need-add-ones-before
 add-ones-before c = search needs
@@ -25,7 +25,7 @@ returns c =
     let a = c .before .before .before .args in
     omega (arith, count-between true (a .from) (a .k) (unpack (a .s .now)))
 
-pub ones-spec : {M : Type 1} → statement M
-ones-spec =
+pub ones-from-spec : {M : Type 1} → statement M
+ones-from-spec =
     tie.close
     (tie.spec add-ones-before ones-before-requires ones-before-requires-2 sub-result returns)
