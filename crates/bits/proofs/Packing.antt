@@ -6,12 +6,12 @@ use mathlib.Core.Logic.{_⊎_, inl, inr}
 use Prim.Native.Nat.{ℕ, zero, suc, _+_, _-_, _*_, _%_, _^_, _≤_, _<_}
 use native.Mathlib.Omega.{arith}
 use native.Mathlib.Nat.{zero-add, suc-add, two-pow-succ, mod-eq-of-lt}
+use native.Mathlib.Decide.{decLe}
 use lib.ListN.{length, getD, drop, replicate, replicate-append-replicate}
 use lib.Seq.{drop-nil, drop-at}
-use Rattle.bits.specs.Bits.{bitOf, wordBits, unpack, worth, wordOf, bytesOf, byteCount, pack, padding}
-use native.Mathlib.Decide.{decLe}
-use Rattle.bits.proofs.Words.{words-length, words-join, words-zero, worth-bit}
 use lib.Pow.{mod-pow-add}
+use Rattle.bits.specs.Bits.{bitOf, wordBits, unpack, worth, wordOf, bytesOf, byteCount, pack, padding}
+use Rattle.bits.proofs.Words.{words-length, words-join, words-zero, worth-bit}
 use Rattle.bits.proofs.Bytes.{unpack-length}
 
 -- the first n bits, zeros where they end before

@@ -22,6 +22,7 @@ unpack bytes = flatten (map (wordBits 8) bytes)
 
 -- ## From bits to bytes
 
+-- A one counts 1, a zero nothing
 abbrev pub worth : Bool → ℕ
 worth false = 0
 worth true = 1
@@ -59,6 +60,7 @@ putAt n new old =
 
 -- ## Counting
 
+-- Whether a bit is the first one given
 abbrev pub is : Bool → Bool → Bool
 is true a = a
 is false a = not a

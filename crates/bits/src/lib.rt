@@ -140,8 +140,8 @@ pub fn ones_before(s: &[u8], e: usize) -> usize
     whole + u64::count_ones(last) as usize
 }
 
-// How many of the k bits from bit `from` on are ones. The index, whose bitmaps lie inside its bytes and are at most 4,096 bits long, shows that
-// the range does too and that its end fits a number.
+// How many of the k bits from bit `from` on are ones. The bits before are counted too, so a caller hands on the part of its bytes that begins with the
+// byte of the first bit. The index, whose bitmaps lie inside its bytes and are at most 4,096 bits long, shows that the range does and that its end fits.
 pub fn ones_from(s: &[u8], from: usize, k: usize) -> usize
     requires { ⌜ (from + k ≤ 8 * length (now s)) × (from + k < 2 ^ 64) ⌝ }
     ensures { λ r. ⌜ r ≡ count true (take k (drop from (unpack (now (s .entry))))) ⌝ }

@@ -7,6 +7,7 @@ use lib.Dec.{eqb}
 use Rattle.bits.specs.Bits.{pack}
 use Rattle.fibonacci.specs.Code.{runs, Codeword, number, codeword}
 
+-- What holds of each element of a list
 abbrev pub All : {A : Type 0} → (A → Type 0) → List A → Type 0
 All P [] = Unit {0}
 All P (x ∷ xs) = P x × All P xs
