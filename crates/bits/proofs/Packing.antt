@@ -8,10 +8,10 @@ use native.Mathlib.Omega.{arith}
 use native.Mathlib.Nat.{zero-add, suc-add, two-pow-succ, mod-eq-of-lt}
 use native.Mathlib.Decide.{decLe}
 use lib.ListN.{length, getD, drop, replicate, replicate-append-replicate}
-use lib.Seq.{drop-nil, drop-at}
+use lib.Seq.{drop-nil, drop-at, getD-drop}
 use lib.Pow.{mod-pow-add}
-use Rattle.bits.specs.Bits.{bitOf, wordBits, unpack, worth, wordOf, bytesOf, byteCount, pack, padding}
-use Rattle.bits.proofs.Words.{words-length, words-join, words-zero, worth-bit}
+use Rattle.bits.specs.Bits.{wordBits, unpack, wordOf, bytesOf, byteCount, pack, padding}
+use Rattle.bits.proofs.Words.{words-length, words-cons, words-zero, worth-bit}
 use Rattle.bits.proofs.Bytes.{unpack-length}
 
 -- the first n bits, zeros where they end before
@@ -45,6 +45,15 @@ unfolding fit
 fit-long [] z = ap (λ (x : ℕ). fit x []) (zero-add z) ∙ fit-nil z
 fit-long (a ∷ b) z = ap (λ (x : ℕ). fit x (a ∷ b)) (suc-add (length b) z) ∙ ap (λ (l : List Bool). a ∷ l) (fit-long b z)
 
+bytes-length : (c : ℕ) (b : List Bool) → length (bytesOf c b) ≡ c
+unfolding bytesOf
+bytes-length zero b = refl
+bytes-length (suc c) b = ap suc (bytes-length c (drop 8 b))
+
+pub pack-length : (b : List Bool) → length (pack b) ≡ byteCount (length b)
+unfolding pack
+pack-length b = bytes-length (byteCount (length b)) b
+
 -- ## Unpacking what was packed
 
 -- the bits of a number are those that made it
@@ -52,14 +61,7 @@ bits-of-word : (n : ℕ) (b : List Bool) → wordBits n (wordOf n b) ≡ fit n b
 unfolding fit wordOf
 bits-of-word zero b = words-zero 0
 bits-of-word (suc n) [] = words-zero (suc n) ∙ sym (fit-nil (suc n))
-bits-of-word (suc n) (a ∷ b) =
-    let e : suc n ≡ 1 + n = omega arith in
-    ap (λ (k : ℕ). wordBits k (worth a * 2 ^ n + wordOf n b)) e ∙ words-join 1 n (worth a) (wordOf n b) (word-below n b)
-    ∙ ap₂ (λ (u v : List Bool). u ++ v) (one a) (bits-of-word n b)
-  where
-    one : (a : Bool) → wordBits 1 (worth a) ≡ a ∷ []
-    one false = unfold wordBits bitOf in refl
-    one true = unfold wordBits bitOf in refl
+bits-of-word (suc n) (a ∷ b) = words-cons a n (wordOf n b) (word-below n b) ∙ ap (λ (l : List Bool). a ∷ l) (bits-of-word n b)
 
 pub unpack-bytes : (c : ℕ) (b : List Bool) → unpack (bytesOf c b) ≡ fit (8 * c) b
 unfolding bytesOf unpack flatten fit
@@ -121,3 +123,31 @@ unfolding pack
 pack-unpack s h =
     let e : byteCount (length (unpack s)) ≡ length s = omega (arith, unpack-length s) in
     ap (λ (c : ℕ). bytesOf c (unpack s)) e ∙ bytes-unpack s h
+
+-- ## Bytes
+
+-- each element is below 256
+abbrev pub Bytes : List ℕ → Type 0
+Bytes s = (i : ℕ) → getD s i 0 < 256
+
+pub bytes-append : (s t : List ℕ) → Bytes s → Bytes t → Bytes (s ++ t)
+bytes-append [] t hs ht i = ht i
+bytes-append (b ∷ s) t hs ht zero = hs 0
+bytes-append (b ∷ s) t hs ht (suc i) = bytes-append s t (λ i. hs (suc i)) ht i
+
+pub bytes-drop : (n : ℕ) (s : List ℕ) → Bytes s → Bytes (drop n s)
+bytes-drop n s h i = rw (getD-drop n s i 0) (h (n + i))
+
+bytes-bytes : (c : ℕ) (b : List Bool) → Bytes (bytesOf c b)
+unfolding bytesOf
+bytes-bytes zero b i = omega arith
+bytes-bytes (suc c) b zero = word-below 8 b
+bytes-bytes (suc c) b (suc i) = bytes-bytes c (drop 8 b) i
+
+pub pack-bytes : (b : List Bool) → Bytes (pack b)
+unfolding pack
+pack-bytes b = bytes-bytes (byteCount (length b)) b
+
+-- bytes with the same bits are the same
+pub unpack-apart : (s t : List ℕ) → Bytes s → Bytes t → unpack s ≡ unpack t → s ≡ t
+unpack-apart s t hs ht e = sym (pack-unpack s hs) ∙ ap pack e ∙ pack-unpack t ht

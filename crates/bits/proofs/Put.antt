@@ -9,10 +9,10 @@ use lib.Seq.{take-at, take-all, drop-at, drop-drop, length-take-le, take-append-
 use lib.Pow.{shl-exact, pow-add}
 use lib.Bits.{bitOr, or-shifted}
 use lib.Arith.{digits-lt}
-use Rattle.bits.specs.Bits.{wordBits, unpack, bytesOf, byteCount, padding, putAt}
+use Rattle.bits.specs.Bits.{wordBits, unpack, bytesOf, byteCount, pack, padding, putAt}
 use Rattle.bits.proofs.Words.{words-length, words-split, words-join, words-padded}
 use Rattle.bits.proofs.Bytes.{unpack-append, unpack-length, unpack-drop, high-below, first-bits}
-use Rattle.bits.proofs.Packing.{fit, fit-long, unpack-bytes, word-of-bits}
+use Rattle.bits.proofs.Packing.{fit, fit-long, unpack-bytes, unpack-pack, word-of-bits, Bytes, bytes-append, bytes-drop, pack-bytes, pack-length, unpack-apart}
 
 -- ## The bytes of a word
 
@@ -147,3 +147,19 @@ put-more n a b old h =
     ap (λ (k : ℕ). take n old ++ ((a ++ b) ++ (replicate (8 * byteCount k - k) false ++ drop (8 * byteCount k) old))) m
     ∙ ap (λ (l : List Bool). take n old ++ l) (append-assoc a b end) ∙ sym (append-assoc (take n old) a (b ++ end))
     ∙ sym (ap₂ (λ (u v : List Bool). u ++ (b ++ (replicate (c2 - n2) false ++ v))) t r)
+
+-- ## The bytes of the buffer
+
+-- after the first n bits, which stay: the packing of them and the new ones, and the bytes after it
+pub put-packed : (s ys : List ℕ) (n : ℕ) (new : List Bool) → n ≤ 8 * length s → Bytes s → Bytes ys → unpack ys ≡ putAt n new (unpack s)
+    → let b : List Bool = take n (unpack s) ++ new in
+    ys ≡ pack b ++ drop (length (pack b)) s
+unfolding putAt
+put-packed s ys n new h bs by e =
+    let b : List Bool = take n (unpack s) ++ new in
+    let l : length b ≡ n + length new = length-append (take n (unpack s)) new ∙ ap (λ (k : ℕ). k + length new) (length-take-le n (unpack s) (omega (arith, unpack-length s))) in
+    let t : unpack (pack b ++ drop (length (pack b)) s) ≡ putAt n new (unpack s) =
+    unpack-append (pack b) (drop (length (pack b)) s)
+    ∙ ap₂ (λ (u v : List Bool). u ++ v) (unpack-pack b) (unpack-drop s (length (pack b)) ∙ ap (λ (k : ℕ). drop (8 * k) (unpack s)) (pack-length b))
+    ∙ rw l (simp append-assoc) in
+    unpack-apart ys (pack b ++ drop (length (pack b)) s) by (bytes-append (pack b) _ (pack-bytes b) (bytes-drop (length (pack b)) s bs)) (e ∙ sym t)

@@ -1,7 +1,7 @@
 -- The bits of a word: shifts, masks, and two words one after the other. Every law is for any width.
 use mathlib.Core.Path.{_≡_, refl, sym, ap, ap₂, _∙_}
 use mathlib.Core.Bool.{Bool, true, false, not, _&&_, _||_, or-true, or-false, and-true, and-false}
-use mathlib.Core.List.{List, _∷_, _++_}
+use mathlib.Core.List.{List, [], _∷_, _++_}
 use Prim.Native.Nat.{ℕ, zero, suc, _+_, _-_, _*_, _/_, _%_, _^_, _≤_, _<_, min, max}
 use native.Mathlib.Omega.{arith}
 use native.Mathlib.Nat.{add-zero, zero-add, suc-add, add-comm, zero-div, two-pow-succ}
@@ -172,6 +172,16 @@ words-join a b x y h =
     words-split a b (x * 2 ^ b + y)
     ∙ ap₂ (λ (u v : List Bool). u ++ v) (ap (wordBits a) (high x b h))
     (sym (words-mod b b (x * 2 ^ b + y) (omega arith)) ∙ ap (wordBits b) (low x b h))
+
+-- a bit on top of a word
+pub words-cons : (a : Bool) (n x : ℕ) → x < 2 ^ n → wordBits (suc n) (worth a * 2 ^ n + x) ≡ a ∷ wordBits n x
+words-cons a n x h =
+    let e : suc n ≡ 1 + n = omega arith in
+    ap (λ (k : ℕ). wordBits k (worth a * 2 ^ n + x)) e ∙ words-join 1 n (worth a) x h ∙ ap (λ (l : List Bool). l ++ wordBits n x) (one a)
+  where
+    one : (a : Bool) → wordBits 1 (worth a) ≡ a ∷ []
+    one false = unfold wordBits bitOf in refl
+    one true = unfold wordBits bitOf in refl
 
 pub words-zero : (n : ℕ) → wordBits n 0 ≡ replicate n false
 unfolding wordBits

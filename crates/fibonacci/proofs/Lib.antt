@@ -6,3 +6,4 @@ pub mod Parse
 pub mod Rows
 pub mod Demand
 pub mod Lookup
+pub mod Checks

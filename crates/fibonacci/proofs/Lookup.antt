@@ -1,6 +1,6 @@
 -- The tables' rule, carried to each row and to each entry.
 use mathlib.Core.Path.{_≡_, refl, sym, ap, _∙_}
-use mathlib.Core.Bool.{Bool, false}
+use mathlib.Core.Bool.{Bool, true, false}
 use mathlib.Core.List.{List}
 use Prim.Native.Nat.{ℕ, zero, suc, _+_, _-_, _≤_, _<_}
 use native.Mathlib.Omega.{arith}
@@ -8,9 +8,10 @@ use native.Mathlib.Nat.{add-zero, zero-add}
 use native.Mathlib.Decide.{decLe}
 use lib.Dec.{leb}
 use lib.ListN.{getD, replicate, getD-replicate}
-use borrow.Author.Tests.{le-leb, lt-leb, leb-false}
+use borrow.Author.Tests.{le-leb, lt-leb, leb-true, leb-false}
 use Rattle.fibonacci.specs.Code.{valuesFrom, past, F, first}
-use Rattle.fibonacci.specs.Tables.{Order, largest, bounded, tableRow, tableOf}
+use Rattle.fibonacci.specs.Calls.{largest}
+use Rattle.fibonacci.specs.Tables.{Order, bounded, tableRow, tableOf}
 use Rattle.fibonacci.proofs.Numeration.{F-rises}
 use Rattle.fibonacci.proofs.Numbers.{first-rises}
 
@@ -34,21 +35,25 @@ entry-at f j z h = values-at (λ j. bounded (f j)) 0 47 j z h ∙ ap (λ (i : �
 
 -- ## Past the row
 
--- a value of each order that passes the largest number, by one computation over the orders
-over : (f : ℕ → ℕ → ℕ) → valuesFrom (λ m. leb (f m 47) largest) 2 5 ≡ replicate 5 false → (m : ℕ) → Order m → largest < f m 47
-over f e m h =
+-- what one computation over the orders shows
+each-order : (t : ℕ → Bool) (v : Bool) → valuesFrom t 2 5 ≡ replicate 5 v → (m : ℕ) → Order m → t m ≡ v
+each-order t v e m h =
     let k : 2 + (m - 2) ≡ m = omega arith in
-    leb-false (f m 47) largest
-    (ap (λ (m : ℕ). leb (f m 47) largest) (sym k) ∙ sym (values-at (λ m. leb (f m 47) largest) 2 5 (m - 2) false (omega arith))
-    ∙ ap (λ (l : List Bool). getD l (m - 2) false) e ∙ getD-replicate 5 (m - 2) false false (omega arith))
+    ap t (sym k) ∙ sym (values-at t 2 5 (m - 2) v (omega arith)) ∙ ap (λ (l : List Bool). getD l (m - 2) v) e
+    ∙ getD-replicate 5 (m - 2) v v (omega arith)
 
 pub F-over : (m : ℕ) → Order m → largest < F m 47
 unfolding F past
-F-over = over F refl
+F-over m h = leb-false _ _ (each-order (λ m. leb (F m 47) largest) false refl m h)
 
 pub first-over : (m : ℕ) → Order m → largest < first m 47
 unfolding first F past
-first-over = over first refl
+first-over m h = leb-false _ _ (each-order (λ m. leb (first m 47) largest) false refl m h)
+
+-- the first numbers of few bits are small
+pub first-few : (m d : ℕ) → Order m → d ≤ 8 → first m d ≤ largest
+unfolding first F past
+first-few m d h l = omega (arith, leb-true (first m 8) largest (each-order (λ m. leb (first m 8) largest) true refl m h), first-rises m l)
 
 -- ## What a look-up gives
 
@@ -59,6 +64,13 @@ bounded-is x h = rw (le-leb x largest h, bounded)
 pub bounded-not : (x : ℕ) → largest < x → bounded x ≡ 0
 unfolding bounded
 bounded-not x h = rw (lt-leb x largest h, bounded)
+
+-- so a look-up tells whether there is such a value
+pub bounded-none : (x : ℕ) → 1 ≤ x → bounded x ≡ 0 → largest < x
+bounded-none x p e = elim (decLe x largest) [ yes h ↦ absurd (omega (arith, bounded-is x h)) | no h ↦ omega arith ]
+
+pub bounded-some : (x : ℕ) → (bounded x ≡ 0 → ⊥) → x ≤ largest
+bounded-some x e = elim (decLe x largest) [ yes h ↦ h | no h ↦ absurd (e (bounded-not x (omega arith))) ]
 
 module _ (m : ℕ) (h : Order m) where
   -- every position value up to the largest number stands in the row
@@ -71,6 +83,14 @@ module _ (m : ℕ) (h : Order m) where
 
   pub position-at : (j z : ℕ) → F m j ≤ largest → getD (tableRow (F m)) j z ≡ F m j
   position-at j z b = entry-at (F m) j z (position-within j b) ∙ bounded-is (F m j) b
+
+  -- every first number up to the largest number stands in the row
+  pub first-within : (d : ℕ) → first m d ≤ largest → d < 47
+  first-within d b =
+      elim (decLe 47 d) [
+        | yes l ↦ absurd (omega (arith, first-over m h, first-rises m l))
+        | no l ↦ omega arith
+      ]
 
   -- past the row every first number is above the largest number
   pub first-past : (d : ℕ) → 47 ≤ d → bounded (first m d) ≡ 0

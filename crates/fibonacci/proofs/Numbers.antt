@@ -12,7 +12,7 @@ use lib.Seq.{take-at}
 use borrow.Author.Tests.{le-leb, lt-leb}
 use Rattle.fibonacci.specs.Code.{sum, valuesFrom, past, F, value, first, ones, runs, Codeword, Form, number, digits, size, codeword}
 use Rattle.fibonacci.proofs.Runs.{runs-false, runs-more, runs-grow, lead-ones, runs-all, runs-cut}
-use Rattle.fibonacci.proofs.Numeration.{rising, F-suc, part-head, F-pos, digits-small, digits-good, free-digits, digits-append, digits-length}
+use Rattle.fibonacci.proofs.Numeration.{rising, part, F-suc, part-suc, part-zero, part-none, part-head, F-pos, digits-small, digits-good, free-digits, digits-append, digits-length}
 
 -- ## The first numbers
 
@@ -32,6 +32,23 @@ first-suc m (suc s) =
 
 pub first-rises : (m : ℕ) {j k : ℕ} → j ≤ k → first m j ≤ first m k
 first-rises m = rising (first m) (λ d. omega (arith, first-suc m d))
+
+pub first-pos : (m d : ℕ) → 1 ≤ first m d
+unfolding first
+first-pos m d = first-rises m {j = 0} {k = d} (omega arith)
+
+-- any of the position values down from F(n) sum up to less than the next first number
+part-below : (m n i : ℕ) → part m n i < first m (suc n)
+unfolding first
+part-below m n zero = omega (arith, part-none m n)
+part-below m zero (suc i) = omega (arith, part-zero m (suc i) (omega arith))
+part-below m (suc n) (suc i) = omega (arith, part-suc m n i, first-suc m (suc n), part-below m n i)
+
+-- so no position value is above the first number of its place
+pub F-first : (m d : ℕ) → F m d ≤ first m d
+unfolding F past first
+F-first m zero = omega arith
+F-first m (suc s) = omega (arith, F-suc m s, part-below m s m)
 
 -- n is among the numbers whose codewords have d bits before their m ones
 abbrev pub Within : ℕ → ℕ → ℕ → Type 0
@@ -70,6 +87,14 @@ value-append m j (false ∷ p) t = value-append m (suc j) p t ∙ ap (λ (x : �
 value-append m j (true ∷ p) t =
     let e : value m (suc j + length p) t ≡ value m (j + suc (length p)) t = ap (λ (x : ℕ). value m x t) (omega arith) in
     omega (arith, value-append m (suc j) p t)
+
+-- what ones at the digits l + 1, .. , l + r are worth, by the first numbers
+pub value-ones : (m l r : ℕ) → value m (suc l) (ones r) + first m (suc l) ≡ first m (suc (l + r))
+unfolding value
+value-ones m l zero = rw (add-zero l) (omega arith)
+value-ones m l (suc r) =
+    let e : first m (suc (suc l + r)) ≡ first m (suc (l + suc r)) = ap (λ (x : ℕ). first m (suc x)) (omega arith) in
+    omega (arith, value-ones m (suc l) r, first-suc m (suc l))
 
 pub number-of : (m : ℕ) (p : List Bool) → number m (p ++ ones m) ≡ first m (length p) + value m 1 p
 unfolding number

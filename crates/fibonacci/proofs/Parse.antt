@@ -97,7 +97,7 @@ parse-is m b p =
 
 -- ## It is the only such one
 
-push-prepend : (a : Bool) (w : List Bool) (s : Parse) → push a (prepend w s) ≡ prepend (a ∷ w) s
+pub push-prepend : (a : Bool) (w : List Bool) (s : Parse) → push a (prepend w s) ≡ prepend (a ∷ w) s
 push-prepend a w (parsed ws r) = refl
 
 after-ones : (m k j : ℕ) (t : List Bool) → k + suc j ≡ m → parseAfter m k (ones (suc j) ++ t) ≡ prepend (ones (suc j)) (parseAfter m 0 t)

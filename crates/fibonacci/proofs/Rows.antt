@@ -1,7 +1,7 @@
 -- Rows, their bits and their bytes: what is written is read back, rows are told apart by their bytes, and one begins another when its bits do.
 use mathlib.Core.Path.{_≡_, refl, sym, ap, ap₂, _∙_}
 use mathlib.Core.Bool.{Bool, false}
-use mathlib.Core.List.{List, [], _∷_, _++_, append-nil, map, map-append, IsPrefix}
+use mathlib.Core.List.{List, [], _∷_, _++_, append-nil, map, map-append, flatten, IsPrefix}
 use mathlib.Core.Logic.{_↔_}
 use Prim.Native.Nat.{ℕ, zero, suc, _≤_}
 use lib.ListN.{length, replicate}
@@ -9,10 +9,10 @@ use Rattle.bits.specs.Bits.{unpack, padding}
 use Rattle.bits.proofs.Lists.{flatten-map-append}
 use Rattle.bits.proofs.Packing.{unpack-pack}
 use Rattle.fibonacci.specs.Code.{runs, Codeword, number, codeword}
-use Rattle.fibonacci.specs.Encoding.{All, Positive, rowBits, encoding, Parse, parsed, codewords, parse, numbers}
+use Rattle.fibonacci.specs.Encoding.{All, Positive, rowBits, encoding, Parse, parsed, codewords, rest, parse, numbers}
 use Rattle.fibonacci.proofs.Runs.{runs-false}
-use Rattle.fibonacci.proofs.Numbers.{codeword-good}
-use Rattle.fibonacci.proofs.Parse.{onto, onto-codewords, onto-parsed, parse-flatten, parse-rest}
+use Rattle.fibonacci.proofs.Numbers.{codeword-good, codeword-number}
+use Rattle.fibonacci.proofs.Parse.{parse-is, onto, onto-codewords, onto-parsed, parse-flatten, parse-rest}
 
 -- ## The parse of a row's bits
 
@@ -50,6 +50,25 @@ unfolding numbers
 bits-read m row p h =
     ap (numbers m) (sym (append-nil (rowBits m row))) ∙ bits-numbers m row [] p h
     ∙ ap (λ (s : Parse). row ++ map (number m) (codewords s)) (parse-zeros m 0 p) ∙ append-nil row
+
+-- any bits are those of their numbers, and the rest
+pub numbers-bits : (m : ℕ) (b : List Bool) → 1 ≤ m → rowBits m (numbers m b) ++ rest (parse m b) ≡ b
+unfolding rowBits numbers
+numbers-bits m b p =
+    let i = parse-is m b p in
+    ap (λ (ws : List (List Bool)). flatten ws ++ rest (parse m b)) (same (codewords (parse m b)) (i .coded)) ∙ i .joined
+  where
+    same : (ws : List (List Bool)) → All (Codeword m) ws → map (codeword m) (map (number m) ws) ≡ ws
+    same [] a = refl
+    same (w ∷ ws) a = ap₂ (λ (x : List Bool) (l : List (List Bool)). x ∷ l) (codeword-number m w p (a .0) .0) (same ws (a .1))
+
+pub numbers-positive : (m : ℕ) (b : List Bool) → 1 ≤ m → Positive (numbers m b)
+unfolding numbers
+numbers-positive m b p = each (codewords (parse m b)) (parse-is m b p .coded)
+  where
+    each : (ws : List (List Bool)) → All (Codeword m) ws → Positive (map (number m) ws)
+    each [] a = tt
+    each (w ∷ ws) a = (codeword-number m w p (a .0) .1, each ws (a .1))
 
 -- ## One row begins another
 

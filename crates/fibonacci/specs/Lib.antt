@@ -1,4 +1,5 @@
 pub mod Code
 pub mod Encoding
 pub mod Demand
+pub mod Calls
 pub mod Tables

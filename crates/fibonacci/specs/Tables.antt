@@ -3,15 +3,12 @@ use mathlib.Core.Bool.{true, false}
 use mathlib.Core.List.{List}
 use Prim.Native.Nat.{ℕ, _≤_}
 use lib.Dec.{leb}
+use Rattle.fibonacci.specs.Calls.{largest}
 use Rattle.fibonacci.specs.Code.{valuesFrom}
 
 -- The orders in use: 2, 3, 4, 5 and 6
 abbrev pub Order : ℕ → Type 0
 Order m = (2 ≤ m) × (m ≤ 6)
-
--- The largest number of a row
-abbrev pub largest : ℕ
-largest = 4294967295
 
 -- What a table holds for a value: the value where it is at most the largest number, and 0 where it is above
 unfoldable pub bounded : ℕ → ℕ

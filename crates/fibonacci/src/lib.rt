@@ -2,12 +2,27 @@
 ghost use mathlib.Core.Path.{_≡_};
 ghost use Prim.Native.Nat.{_≤_};
 ghost use Rattle.fibonacci.specs.Code.{F, first};
-ghost use Rattle.fibonacci.specs.Tables.{Order, largest, bounded, tableRow};
+ghost use Rattle.fibonacci.specs.Calls.{isOrder, isNumber, largest};
+ghost use Rattle.fibonacci.specs.Tables.{Order, bounded, tableRow};
 
 mod tables;
 
 use tables::FIRST_NUMBERS;
 use tables::POSITIONS;
+
+// The check of an order, which every operation makes first.
+pub fn is_order(order: usize) -> bool
+    ensures { λ r. ⌜ r ≡ isOrder order ⌝ }
+{
+    2 <= order && order <= 6
+}
+
+// The check of a number, in a row whose numbers go up to a limit.
+pub fn is_number(n: u64, limit: u64) -> bool
+    ensures { λ r. ⌜ r ≡ isNumber limit n ⌝ }
+{
+    1 <= n && n <= limit
+}
 
 // The position values F(0), F(1), .. of an order: a row that a caller takes once and looks values up in. Every operation checks its order before.
 pub fn positions(order: usize) -> [u32; 47]
@@ -45,7 +60,8 @@ pub fn first_number(row: &[u32; 47], order: usize, d: usize) -> u64
     if d < 47 { wide(row[d]) } else { 0 }
 }
 
-fn wide(x: u32) -> u64
+// A number of 32 bits as one of 64.
+pub fn wide(x: u32) -> u64
     ensures { λ r. ⌜ r ≡ x ⌝ }
 {
     x as u64
