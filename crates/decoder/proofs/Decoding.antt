@@ -1,0 +1,173 @@
+-- When an encoding is read and what then is known of it; the answers by what a scan found.
+use mathlib.Core.Path.{_≡_, refl, sym, ap, _∙_}
+use mathlib.Core.Bool.{Bool, true, false, not}
+use mathlib.Core.List.{List, [], _∷_, _++_}
+use Prim.Native.Nat.{ℕ, suc, _+_, _*_, _≤_, _<_}
+use native.Mathlib.Omega.{arith}
+use lib.Dec.{leb, ltb}
+use lib.ListN.{length, take, drop}
+use lib.Seq.{sets, sets-eq, length-sets, slice, take-all, take-append-seam}
+use borrow.Author.Tests.{le-leb, lt-leb, lt-ltb, le-ltb, ltb-false, leb-false, not-false}
+use Rattle.bits.specs.Bits.{unpack, count}
+use Rattle.fibonacci.specs.Code.{sum}
+use Rattle.fibonacci.specs.Encoding.{rowBits, rest, parse, numbers}
+use Rattle.fibonacci.specs.Tables.{Order}
+use Rattle.fibonacci.specs.Calls.{Outcome, accepted, refused, andThen, isOrder, isNumber, Legal, largest, longest, mostBytes}
+use Rattle.fibonacci.proofs.Checks.{order-is, is-order, number-is, check-passed, not-both, accepted-one, refused-same}
+use Rattle.decoder.specs.declared.Refusal.{Refusal}
+use Rattle.decoder.specs.declared.Found.{Found}
+use Rattle.decoder.specs.Answers.{refusal, found, Stored}
+use Rattle.decoder.proofs.Scanning.{finished-all, rest-good}
+use Rattle.decoder.specs.Reading.{checkFinished, contents, decode, read, readInto, total, repeatedTotal}
+
+-- ## The checks of order and length
+
+pub decode-order : (m : ℕ) (s : List ℕ) → isOrder m ≡ false → decode m s ≡ refused 1 0
+unfolding decode
+decode-order m s o = simp o
+
+pub decode-long : (m : ℕ) (s : List ℕ) → isOrder m ≡ true → mostBytes < length s → decode m s ≡ refused 2 0
+unfolding decode
+decode-long m s o h = simp (o, lt-ltb mostBytes (length s) h)
+
+pub decode-contents : (m : ℕ) (s : List ℕ) → isOrder m ≡ true → length s ≤ mostBytes → decode m s ≡ contents largest m (unpack s)
+unfolding decode
+decode-contents m s o h = simp (o, le-ltb mostBytes (length s) h)
+
+-- ## What is known of an encoding that is read
+
+finished-passed : {A : Type 0} (limit i : ℕ) (ns : List ℕ) (next : Outcome A) (x : A) → i ≤ longest → checkFinished limit i ns next ≡ accepted x
+    → Legal limit ns × (i + length ns ≤ longest) × (next ≡ accepted x)
+unfolding checkFinished
+finished-passed limit i [] next x h e = (tt, omega arith, e)
+finished-passed limit i (n ∷ ns) next x h e =
+    let p = check-passed 4 0 (leb longest i) _ x e in
+    let q = check-passed 7 i (not (isNumber limit n)) _ x (p .1) in
+    let r = finished-passed limit (suc i) ns next x (leb-false longest i (p .0)) (q .1) in
+    ((not-false _ (q .0), r .0), omega (arith, r .1), r .2)
+
+pub record Decoded (m : ℕ) (s row : List ℕ) : Type 0 where
+  pub order : Order m
+  pub bytes : length s ≤ mostBytes
+  pub is : row ≡ numbers m (unpack s)
+  pub legal : Legal largest row
+  pub long : length row ≤ longest
+  pub short : length (rest (parse m (unpack s))) < 8
+  pub zeros : count true (rest (parse m (unpack s))) ≡ 0
+
+pub decode-is : (m : ℕ) (s row : List ℕ) → decode m s ≡ accepted row → Decoded m s row
+unfolding decode contents
+decode-is m s row e =
+    let r : List Bool = rest (parse m (unpack s)) in
+    let p1 = check-passed 1 0 (not (isOrder m)) _ row e in
+    let p2 = check-passed 2 0 (ltb mostBytes (length s)) _ row (p1 .1) in
+    let p47 = finished-passed largest 0 (numbers m (unpack s)) _ row (omega arith) (p2 .1) in
+    let p6 = check-passed 6 0 (leb 8 (length r)) _ row (p47 .2) in
+    let p6' = check-passed 6 0 (leb 1 (count true r)) _ row (p6 .1) in
+    let same : row ≡ numbers m (unpack s) = accepted-one (sym (p6' .1)) in
+    record {
+      order = order-is m (not-false _ (p1 .0));
+      bytes = ltb-false mostBytes (length s) (p2 .0);
+      is = same;
+      legal = rw same (p47 .0);
+      long = rw same (omega (arith, p47 .1));
+      short = leb-false 8 (length r) (p6 .0);
+      zeros = omega (arith, leb-false 1 (count true r) (p6' .0));
+    }
+
+pub decode-accepts : (m : ℕ) (s row : List ℕ) → Decoded m s row → decode m s ≡ accepted row
+unfolding contents
+decode-accepts m s row d =
+    let ns : List ℕ = numbers m (unpack s) in
+    decode-contents m s (is-order m (d .order)) (d .bytes)
+    ∙ finished-all largest ns _ (rw (← d .is) (d .legal)) (rw (← d .is) (d .long))
+    ∙ rest-good (rest (parse m (unpack s))) _ (d .short) (d .zeros) ∙ ap accepted (sym (d .is))
+
+-- ## The answers, by what a scan found
+
+abbrev pub foundIn : ℕ → ℕ → ℕ → List ℕ → Found
+foundIn m from to row = record { count = length row; bits = length (rowBits m row); total = sum (slice from to row) }
+
+pub scan-row : (m from to : ℕ) (d : Outcome (List ℕ)) (f : Found) → accepted f ≡ andThen d (found m from to)
+    → (row : List ℕ) × (d ≡ accepted row) × (f ≡ foundIn m from to row)
+scan-row m from to (accepted row) f e = (row, refl, accepted-one e)
+scan-row m from to (refused n p) f e = absurd (not-both (sym e))
+
+pub scan-refused : (m from to : ℕ) (d : Outcome (List ℕ)) (r : Refusal) → refusal r ≡ andThen d (found m from to) → d ≡ refusal r
+scan-refused m from to (accepted row) r e = absurd (not-both e)
+scan-refused m from to (refused n p) r e = sym (refused-same e)
+
+-- a list with room for the row holds it
+pub stored-row : (d : Outcome (List ℕ)) (before after row : List ℕ) → Stored d before after → d ≡ accepted row → length row ≤ length before
+    → (take (length row) after ≡ row) × (length after ≡ length before)
+stored-row d before after row st e h =
+    let st' : after ≡ sets before 0 row = rw e at st in
+    let at : after ≡ row ++ drop (0 + length row) before = st' ∙ sets-eq row before 0 (omega arith) in
+    (ap (take (length row)) at ∙ take-append-seam row (drop (0 + length row) before), ap length st' ∙ length-sets before 0 row)
+
+module _ (m : ℕ) (s before row : List ℕ) (e : decode m s ≡ accepted row) where
+  pub read-row : length row ≤ length before
+      → (accepted (length row) ≡ read m s (length before)) × (row ++ drop (length row) before ≡ readInto m s before)
+  unfolding read readInto
+  read-row h =
+      let a : accepted (length row) ≡ read m s (length before) = rw e (simp (le-ltb (length before) (length row) h)) in
+      (a, rw (← a, ← decode-is m s row e .is) refl)
+
+  pub read-room : length before < length row → (refused 5 0 ≡ read m s (length before)) × (before ≡ readInto m s before)
+  unfolding read readInto
+  read-room h = let a : refused 5 0 ≡ read m s (length before) = rw e (simp (lt-ltb (length before) (length row) h)) in (a, rw (← a) refl)
+
+pub read-refused : (m : ℕ) (s before : List ℕ) (n p : ℕ) → decode m s ≡ refused n p → (refused n p ≡ read m s (length before)) × (before ≡ readInto m s before)
+unfolding read readInto
+read-refused m s before n p e = let a : refused n p ≡ read m s (length before) = rw e refl in (a, rw (← a) refl)
+
+-- ## Totals
+
+module _ (m : ℕ) (s row : List ℕ) (a b : ℕ) (e : decode m s ≡ accepted row) where
+  pub total-sum : a ≤ b → b ≤ length row → accepted (sum (slice a b row)) ≡ total m s a b
+  unfolding total
+  total-sum h l = rw e (simp (le-ltb b a h, le-ltb (length row) b l))
+
+  pub total-turned : b < a → refused 8 0 ≡ total m s a b
+  unfolding total
+  total-turned h = rw e (simp (lt-ltb b a h))
+
+  pub total-past : a ≤ b → length row < b → refused 8 0 ≡ total m s a b
+  unfolding total
+  total-past h l = rw e (simp (le-ltb b a h, lt-ltb (length row) b l))
+
+pub total-refused : (m : ℕ) (s : List ℕ) (a b n p : ℕ) → decode m s ≡ refused n p → refused n p ≡ total m s a b
+unfolding total
+total-refused m s a b n p e = rw e refl
+
+-- the whole row is a span that is long enough
+sum-whole : (row : List ℕ) → length row ≤ longest → sum (slice 0 longest row) ≡ sum row
+sum-whole row h = ap sum (take-all longest row h)
+
+sum-most : (row : List ℕ) → Legal largest row → sum row ≤ largest * length row
+sum-most [] a = omega arith
+sum-most (n ∷ row) a = omega (arith, number-is largest n (a .0), sum-most row (a .1))
+
+module _ (m : ℕ) (s row : List ℕ) (r : ℕ) (e : decode m s ≡ accepted row) where
+  -- what is multiplied is at most 4,096 times the largest number
+  pub repeated-fits : sum (slice 0 longest row) ≤ largest * longest
+  repeated-fits =
+      let d = decode-is m s row e in
+      omega (arith, sum-whole row (d .long), sum-most row (d .legal), d .long)
+
+  pub repeated-sum : 1 ≤ r → r ≤ 10000 → accepted (r * sum (slice 0 longest row)) ≡ repeatedTotal m s r
+  unfolding repeatedTotal
+  repeated-sum l h =
+      rw (e, sum-whole row (decode-is m s row e .long)) (simp (le-leb 1 r l, le-leb r 10000 h))
+
+  pub repeated-none : r ≡ 0 → refused 14 0 ≡ repeatedTotal m s r
+  unfolding repeatedTotal
+  repeated-none h = rw e (simp (lt-leb 1 r (omega arith)))
+
+  pub repeated-more : 10000 < r → refused 14 0 ≡ repeatedTotal m s r
+  unfolding repeatedTotal
+  repeated-more h = rw e (simp (le-leb 1 r (omega arith), lt-leb r 10000 h))
+
+pub repeated-refused : (m : ℕ) (s : List ℕ) (r n p : ℕ) → decode m s ≡ refused n p → refused n p ≡ repeatedTotal m s r
+unfolding repeatedTotal
+repeated-refused m s r n p e = rw e refl

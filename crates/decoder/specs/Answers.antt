@@ -1,0 +1,61 @@
+-- The answers of the functions as paper 01's numbers and values, and what the scan that they share finds.
+use mathlib.Core.Path.{_≡_}
+use mathlib.Core.List.{List}
+use Prim.Native.Nat.{ℕ}
+use lib.ListN.{length}
+use lib.Seq.{sets, slice}
+use Rattle.fibonacci.specs.Code.{sum}
+use Rattle.fibonacci.specs.Encoding.{rowBits}
+use Rattle.fibonacci.specs.Calls.{Outcome, accepted, refused}
+use Rattle.decoder.specs.declared.Refusal.{Refusal}
+use Rattle.decoder.specs.declared.Refusal.the-variants.{Order, Bytes, Count, Number, Rest}
+use Rattle.decoder.specs.declared.Found.{Found}
+use Rattle.decoder.specs.declared.ScanAnswer.{ScanAnswer}
+use Rattle.decoder.specs.declared.ScanAnswer.the-variants as scan
+use Rattle.decoder.specs.declared.ReadAnswer.{ReadAnswer}
+use Rattle.decoder.specs.declared.ReadAnswer.the-variants as read
+use Rattle.decoder.specs.declared.TotalAnswer.{TotalAnswer}
+use Rattle.decoder.specs.declared.TotalAnswer.the-variants as total
+use Rattle.decoder.specs.declared.RepeatedTotalAnswer.{RepeatedTotalAnswer}
+use Rattle.decoder.specs.declared.RepeatedTotalAnswer.the-variants as repeated
+
+-- Why an encoding is not read: the refusal's number and place
+abbrev pub reason : Refusal → ℕ × ℕ
+reason Order = (1, 0)
+reason Bytes = (2, 0)
+reason Count = (4, 0)
+reason (Number place) = (7, place)
+reason Rest = (6, 0)
+
+abbrev pub refusal : {A : Type 0} → Refusal → Outcome A
+refusal r = refused (reason r .0) (reason r .1)
+
+abbrev pub readOutcome : ReadAnswer → Outcome ℕ
+readOutcome (read.Row count) = accepted count
+readOutcome (read.Refused r) = refusal r
+readOutcome read.Room = refused 5 0
+
+abbrev pub totalOutcome : TotalAnswer → Outcome ℕ
+totalOutcome (total.Sum x) = accepted x
+totalOutcome (total.Refused r) = refusal r
+totalOutcome total.Span = refused 8 0
+
+abbrev pub repeatedOutcome : RepeatedTotalAnswer → Outcome ℕ
+repeatedOutcome (repeated.Sum x) = accepted x
+repeatedOutcome (repeated.Refused r) = refusal r
+repeatedOutcome repeated.Repeats = refused 14 0
+
+-- ## The scan
+
+abbrev pub scanOutcome : ScanAnswer → Outcome Found
+scanOutcome (scan.Row f) = accepted f
+scanOutcome (scan.Refused r) = refusal r
+
+-- What a scan tells of a row: how many numbers, how many bits, and the sum of those from one place up to but without another
+abbrev pub found : ℕ → ℕ → ℕ → List ℕ → Outcome Found
+found m from to row = accepted (record { count = length row; bits = length (rowBits m row); total = sum (slice from to row) })
+
+-- A list after a scan that accepts: the row, stored from its start as far as there is room
+abbrev pub Stored : Outcome (List ℕ) → List ℕ → List ℕ → Type 0
+Stored (accepted row) before after = after ≡ sets before 0 row
+Stored (refused number place) before after = Unit {0}

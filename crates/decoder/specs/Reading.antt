@@ -1,0 +1,57 @@
+-- Reading an encoding, and totals of its numbers (paper 01, "When a call says no": Read, Total, Runner). The checks stand in the paper's order.
+use mathlib.Core.Bool.{Bool, true, not}
+use mathlib.Core.List.{List, [], _∷_}
+use Prim.Native.Nat.{ℕ, suc, _*_}
+use lib.Dec.{leb, ltb}
+use lib.ListN.{length}
+use lib.Seq.{slice}
+use Rattle.bits.specs.Bits.{unpack, count}
+use Rattle.fibonacci.specs.Code.{sum}
+use Rattle.fibonacci.specs.Encoding.{rest, parse, numbers}
+use Rattle.fibonacci.specs.Calls.{Outcome, accepted, check, andThen, buffer, within, isOrder, isNumber, largest, longest, mostBytes}
+
+-- From the left, at each finished codeword: 4 if it is the 4,097th, else 7 if its number is above the limit
+unfoldable pub checkFinished : {A : Type 0} → ℕ → ℕ → List ℕ → Outcome A → Outcome A
+checkFinished limit place [] next = next
+checkFinished limit place (n ∷ ns) next =
+    check 4 0 (leb longest place)
+    (check 7 place (not (isNumber limit n))
+    (checkFinished limit (suc place) ns next))
+
+-- What bits hold: their numbers, and 6 where the rest (paper 01: the remainder) has 8 bits or more or holds a one
+unfoldable pub contents : ℕ → ℕ → List Bool → Outcome (List ℕ)
+contents limit m b =
+    checkFinished limit 0 (numbers m b)
+    (check 6 0 (leb 8 (length (rest (parse m b))))
+    (check 6 0 (leb 1 (count true (rest (parse m b))))
+    (accepted (numbers m b))))
+
+-- The row of an encoding, for every call that reads one: 1, 2, then 4 and 7, 6
+unfoldable pub decode : ℕ → List ℕ → Outcome (List ℕ)
+decode m s =
+    check 1 0 (not (isOrder m))
+    (check 2 0 (ltb mostBytes (length s))
+    (contents largest m (unpack s)))
+
+-- Read: 5 the output is shorter than the row; else the count
+unfoldable pub read : ℕ → List ℕ → ℕ → Outcome ℕ
+read m s room = andThen (decode m s) (λ row.
+    check 5 0 (ltb room (length row))
+    (accepted (length row)))
+
+-- The output after reading
+unfoldable pub readInto : ℕ → List ℕ → List ℕ → List ℕ
+readInto m s before = buffer (read m s (length before)) (numbers m (unpack s)) before
+
+-- Total from a, up to but without b: 8 a above b or b above the count; else the sum
+unfoldable pub total : ℕ → List ℕ → ℕ → ℕ → Outcome ℕ
+total m s a b = andThen (decode m s) (λ row.
+    check 8 0 (ltb b a)
+    (check 8 0 (ltb (length row) b)
+    (accepted (sum (slice a b row)))))
+
+-- Repeated total (paper 01: the runner's width): 14 r not 1 to 10,000; else r times the row's total
+unfoldable pub repeatedTotal : ℕ → List ℕ → ℕ → Outcome ℕ
+repeatedTotal m s r = andThen (decode m s) (λ row.
+    check 14 0 (not (within 1 10000 r))
+    (accepted (r * sum row)))

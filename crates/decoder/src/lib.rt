@@ -1,0 +1,241 @@
+// Reading an encoding of order 2 to 6, bit by bit, and totals of its numbers.
+ghost use mathlib.Core.Path.{_≡_};
+ghost use mathlib.Core.List.{_++_};
+ghost use Prim.Native.Nat.{_+_, _*_, _^_, _≤_, _<_};
+ghost use mathlib.Core.Bool.{_&&_};
+ghost use lib.Dec.{eqb, ltb};
+ghost use lib.ListN.{length, take, drop, set};
+ghost use Rattle.bits.specs.Bits.{unpack};
+ghost use Rattle.fibonacci.specs.Code.{ones, value, first};
+ghost use Rattle.fibonacci.specs.Tables.{Order, tableRow};
+ghost use Rattle.fibonacci.specs.Calls.{andThen, largest};
+ghost use Rattle.decoder.specs.Reading.{contents, decode, read, readInto, total, repeatedTotal};
+ghost use Rattle.decoder.specs.Answers.{readOutcome, totalOutcome, repeatedOutcome, scanOutcome, found, Stored};
+
+// Why an encoding is not read.
+pub enum Refusal {
+    Order,
+    Bytes,
+    Count,
+    Number(usize),
+    Rest,
+}
+
+// The answer of reading: how many numbers the row has, or why there is none.
+pub enum ReadAnswer {
+    Row(usize),
+    Refused(Refusal),
+    Room,
+}
+
+pub enum TotalAnswer {
+    Sum(u64),
+    Refused(Refusal),
+    Span,
+}
+
+pub enum RepeatedTotalAnswer {
+    Sum(u64),
+    Refused(Refusal),
+    Repeats,
+}
+
+// What a scan finds: how many numbers the row has, how many bits they take, and the sum of those that it was asked for.
+pub struct Found {
+    pub count: usize,
+    pub bits: usize,
+    pub total: u64,
+}
+
+pub enum ScanAnswer {
+    Row(Found),
+    Refused(Refusal),
+}
+
+// What `run` ones after `len` pending bits are worth once a zero follows them. It matters only while a number of that length can be legal; 0 after that.
+fn ones_value(firsts: &[u32; 47], order: usize, len: usize, run: usize) -> u64
+    requires { ⌜ Order order × (now firsts ≡ tableRow (first order)) × (len + run < 2 ^ 32) ⌝ }
+    ensures { λ r. ⌜ (first order (len + run + 1) ≤ largest → r ≡ value order (len + 1) (ones run)) × (r ≤ largest) ⌝ }
+{
+    if run == 0 {
+        return 0;
+    }
+    let after = fibonacci::first_number(firsts, order, len + run + 1);
+    if after == 0 {
+        return 0;
+    }
+    after - fibonacci::first_number(firsts, order, len + 1)
+}
+
+// The number of a codeword by the bits before its last ones and their value; 0 where it is above 4,294,967,295 by its length alone.
+fn number(firsts: &[u32; 47], order: usize, len: usize, val: u64) -> u64
+    requires { ⌜ Order order × (now firsts ≡ tableRow (first order)) × (val < 2 ^ 63) ⌝ }
+    ensures { λ r. ⌜ (first order len ≤ largest → r ≡ first order len + val) × (largest < first order len → r ≡ 0) ⌝ }
+{
+    let least = fibonacci::first_number(firsts, order, len);
+    if least == 0 { 0 } else { least + val }
+}
+
+// Element i becomes n; where i is past the end, nothing changes.
+fn store(row: &mut [u32], i: usize, n: u64)
+    requires { ⌜ n ≤ largest ⌝ }
+    ensures { λ r. ⌜ now (row .exit) ≡ set (now (row .entry)) i n ⌝ }
+{
+    if i < row.len() {
+        row[i] = n as u32;
+    }
+}
+
+// A sum with the number n of place i, which counts where the place is one of those asked for.
+fn plus(sum: u64, from: usize, to: usize, i: usize, n: u64) -> u64
+    requires { ⌜ sum + n < 2 ^ 64 ⌝ }
+    ensures { λ r. ⌜ (from ≤ i → i < to → r ≡ sum + n) × (i < from → r ≡ sum) × (to ≤ i → r ≡ sum) ⌝ }
+{
+    if i < from {
+        return sum;
+    }
+    if i < to { sum + n } else { sum }
+}
+
+// Whether pending bits are padding: fewer than 8, and no one among them, which would count in their value or in the ones at their end.
+fn is_padding(len: usize, val: u64, run: usize) -> bool
+    ensures { λ r. ⌜ r ≡ (ltb len 8 && (eqb val 0 && eqb run 0)) ⌝ }
+{
+    len < 8 && (val == 0 && run == 0)
+}
+
+// The scan after the checks of order and length: the numbers go up to a limit, and the row is stored as far as there is room.
+fn walk(
+    firsts: &[u32; 47],
+    order: usize,
+    s: &[u8],
+    limit: u64,
+    from: usize,
+    to: usize,
+    row: &mut [u32],
+) -> ScanAnswer
+    requires { ⌜ Order order × (now firsts ≡ tableRow (first order)) × (length (now s) < 2 ^ 28) × (limit ≤ largest) ⌝ }
+    ensures { λ r. ⌜ (scanOutcome r ≡ andThen (contents limit order (unpack (now (s .entry)))) (found order from to)) × Stored (contents limit order (unpack (now (s .entry)))) (now (row .entry)) (now (row .exit)) ⌝ }
+{
+    let end = 8 * s.len();
+    let mut count: usize = 0;
+    let mut sum: u64 = 0;
+    let mut len: usize = 0;
+    let mut val: u64 = 0;
+    let mut run: usize = 0;
+    for k in 0..end {
+        if bits::bit(s, k) {
+            run += 1;
+            if run == order {
+                if count == 4096 {
+                    return ScanAnswer::Refused(Refusal::Count);
+                }
+                let n = number(firsts, order, len, val);
+                if !fibonacci::is_number(n, limit) {
+                    return ScanAnswer::Refused(Refusal::Number(count));
+                }
+                store(row, count, n);
+                sum = plus(sum, from, to, count, n);
+                count += 1;
+                len = 0;
+                val = 0;
+                run = 0;
+            }
+        } else {
+            val += ones_value(firsts, order, len, run);
+            len += run + 1;
+            run = 0;
+        }
+    }
+    if !is_padding(len, val, run) {
+        return ScanAnswer::Refused(Refusal::Rest);
+    }
+    ScanAnswer::Row(Found {
+        count,
+        bits: end - len,
+        total: sum,
+    })
+}
+
+// The scan of an encoding, which every call that reads one makes: its checks, and what it finds. The row goes to the lent list, as far as that has room.
+pub fn scan(order: usize, s: &[u8], from: usize, to: usize, row: &mut [u32]) -> ScanAnswer
+    ensures { λ r. ⌜ (scanOutcome r ≡ andThen (decode order (now (s .entry))) (found order from to)) × Stored (decode order (now (s .entry))) (now (row .entry)) (now (row .exit)) ⌝ }
+{
+    if !fibonacci::is_order(order) {
+        return ScanAnswer::Refused(Refusal::Order);
+    }
+    if s.len() > 24064 {
+        return ScanAnswer::Refused(Refusal::Bytes);
+    }
+    let firsts = fibonacci::first_numbers(order);
+    walk(&firsts, order, s, 4294967295, from, to, row)
+}
+
+// The first n elements of one list over those of another.
+fn copy(to: &mut [u32], row: &[u32], n: usize)
+    requires { ⌜ (n ≤ length (now row)) × (n ≤ length (now to)) ⌝ }
+    ensures { λ r. ⌜ now (to .exit) ≡ take n (now (row .entry)) ++ drop n (now (to .entry)) ⌝ }
+{
+    for i in 0..n {
+        to[i] = row[i];
+    }
+}
+
+// Reads an encoding. The row goes to a list of its own first, as a refusal must leave the output as it was.
+pub fn read(order: usize, s: &[u8], out: &mut [u32]) -> ReadAnswer
+    ensures { λ r. ⌜ (readOutcome r ≡ read order (now (s .entry)) (length (now (out .entry)))) × (now (out .exit) ≡ readInto order (now (s .entry)) (now (out .entry))) ⌝ }
+{
+    let mut row: [u32; 4096] = [0; 4096];
+    let scanned = scan(order, s, 0, 0, &mut row);
+    match scanned {
+        ScanAnswer::Row(f) => {
+            let count = f.count;
+            if out.len() < count {
+                return ReadAnswer::Room;
+            }
+            copy(out, &row, count);
+            ReadAnswer::Row(count)
+        }
+        ScanAnswer::Refused(r) => ReadAnswer::Refused(r),
+    }
+}
+
+// The total of the numbers from place a up to but without place b.
+pub fn total(order: usize, s: &[u8], a: usize, b: usize) -> TotalAnswer
+    ensures { λ r. ⌜ totalOutcome r ≡ total order (now (s .entry)) a b ⌝ }
+{
+    let mut row: [u32; 1] = [0];
+    let scanned = scan(order, s, a, b, &mut row);
+    match scanned {
+        ScanAnswer::Row(f) => {
+            if a > b {
+                return TotalAnswer::Span;
+            }
+            if b > f.count {
+                return TotalAnswer::Span;
+            }
+            TotalAnswer::Sum(f.total)
+        }
+        ScanAnswer::Refused(r) => TotalAnswer::Refused(r),
+    }
+}
+
+// The total of the row repeated.
+pub fn repeated_total(order: usize, s: &[u8], repeats: u64) -> RepeatedTotalAnswer
+    ensures { λ r. ⌜ repeatedOutcome r ≡ repeatedTotal order (now (s .entry)) repeats ⌝ }
+{
+    let mut row: [u32; 1] = [0];
+    let scanned = scan(order, s, 0, 4096, &mut row);
+    match scanned {
+        ScanAnswer::Row(f) => {
+            if repeats == 0 {
+                return RepeatedTotalAnswer::Repeats;
+            }
+            if repeats > 10000 {
+                return RepeatedTotalAnswer::Repeats;
+            }
+            RepeatedTotalAnswer::Sum(repeats * f.total)
+        }
+        ScanAnswer::Refused(r) => RepeatedTotalAnswer::Refused(r),
+    }
+}
