@@ -1,0 +1,168 @@
+-- What appending answers and leaves behind, check by check.
+use mathlib.Core.Path.{_≡_, refl, sym, ap, _∙_}
+use mathlib.Core.Bool.{Bool, true, false, not}
+use mathlib.Core.List.{List, [], _∷_, _++_}
+use Prim.Native.Nat.{ℕ, suc, _+_, _*_, _≤_, _<_}
+use native.Mathlib.Omega.{arith}
+use native.Mathlib.Decide.{decLe}
+use lib.Dec.{leb, ltb}
+use lib.ListN.{length, take, drop, length-append}
+use lib.Seq.{length-take-le, take-append-seam, take-take}
+use borrow.Author.Tests.{le-leb, lt-leb, lt-ltb, le-ltb}
+use Rattle.bits.specs.Bits.{byteCount, unpack, pack, putAt}
+use Rattle.bits.proofs.Bytes.{unpack-length, unpack-take}
+use Rattle.bits.proofs.Packing.{Bytes, pack-length}
+use Rattle.bits.proofs.Put.{put-packed}
+use Rattle.fibonacci.specs.Code.{size, codeword}
+use Rattle.fibonacci.specs.Encoding.{rowBits, encoding, rest, parse, numbers}
+use Rattle.fibonacci.specs.Calls.{Outcome, accepted, refused, check, andThen, buffer, isOrder, isNumber, largest, longest, mostBytes}
+use Rattle.fibonacci.proofs.Checks.{number-is}
+use Rattle.fibonacci.proofs.Rows.{numbers-bits}
+use Rattle.decoder.specs.Reading.{decode}
+use Rattle.decoder.proofs.Decoding.{decode-is}
+use Rattle.encoder.specs.Writing.{append, appendInto}
+use Rattle.encoder.proofs.Codewords.{stem-long}
+use Rattle.encoder.proofs.Rows.{bits-snoc}
+
+-- the call answers so, and leaves the buffer as the list after
+abbrev pub Appends : ℕ → List ℕ → ℕ → ℕ → List ℕ → Outcome (ℕ × ℕ) → Type 0
+Appends m before used n after outcome = (outcome ≡ append m before used n) × (after ≡ appendInto m before used n)
+
+module _ (m : ℕ) (before : List ℕ) (used n : ℕ) where
+  answer : (outcome : Outcome (ℕ × ℕ)) → append m before used n ≡ outcome
+      → Appends m before used n (buffer outcome (encoding m (numbers m (unpack (take used before)) ++ (n ∷ []))) before) outcome
+  unfolding appendInto
+  answer outcome e =
+      let new : List ℕ = encoding m (numbers m (unpack (take used before)) ++ (n ∷ [])) in
+      (sym e, ap (λ (o : Outcome (ℕ × ℕ)). buffer o new before) (sym e))
+
+  -- ## The checks of order and bytes
+
+  pub append-order : isOrder m ≡ false → Appends m before used n before (refused 1 0)
+  unfolding append
+  append-order o = answer (refused 1 0) (rw o)
+
+  pub append-long : isOrder m ≡ true → mostBytes < used → Appends m before used n before (refused 2 0)
+  unfolding append
+  append-long o h = answer (refused 2 0) (rw (o, lt-ltb mostBytes used h))
+
+  pub append-past : isOrder m ≡ true → used ≤ mostBytes → length before < used → Appends m before used n before (refused 2 0)
+  unfolding append
+  append-past o l h = answer (refused 2 0) (rw (o, le-ltb mostBytes used l, lt-ltb (length before) used h))
+
+-- order and bytes are passed
+pub record Given (m : ℕ) (before : List ℕ) (used : ℕ) : Type 0 where
+  pub order : isOrder m ≡ true
+  pub bytes : used ≤ mostBytes
+  pub inside : used ≤ length before
+
+module _ (m : ℕ) (before : List ℕ) (used n : ℕ) (g : Given m before used) where
+  -- so the encoding decides
+  given : append m before used n ≡ andThen (decode m (take used before)) (λ row.
+      check 3 0 (not (isNumber largest n))
+      (check 4 0 (leb longest (length row))
+      (check 5 0 (ltb (length before) (length (encoding m (row ++ (n ∷ [])))))
+      (accepted (length (encoding m (row ++ (n ∷ []))), suc (length row))))))
+  unfolding append
+  given = rw (g .order, le-ltb mostBytes used (g .bytes), le-ltb (length before) used (g .inside)) refl
+
+  pub append-unread : (k p : ℕ) → decode m (take used before) ≡ refused k p → Appends m before used n before (refused k p)
+  append-unread k p e = answer m before used n (refused k p) (given ∙ rw e refl)
+
+  -- ## The checks of the number and of the room
+
+  module _ (row : List ℕ) (e : decode m (take used before) ≡ accepted row) where
+    pub append-number : isNumber largest n ≡ false → Appends m before used n before (refused 3 0)
+    append-number f = answer m before used n (refused 3 0) (given ∙ rw (e, f) refl)
+
+    pub append-full : isNumber largest n ≡ true → length row ≡ longest → Appends m before used n before (refused 4 0)
+    append-full legal f = answer m before used n (refused 4 0) (given ∙ rw (e, legal, le-leb longest (length row) (omega arith)) refl)
+
+    -- the bytes of the longer row
+    longer : length (encoding m (row ++ (n ∷ []))) ≡ byteCount (length (rowBits m row) + length (codeword m n))
+    unfolding encoding
+    longer =
+        pack-length (rowBits m (row ++ (n ∷ [])))
+        ∙ ap byteCount (ap length (bits-snoc m row n) ∙ length-append (rowBits m row) (codeword m n))
+
+    -- the bits of the row begin those in use
+    whole : rowBits m row ++ rest (parse m (unpack (take used before))) ≡ unpack (take used before)
+    whole =
+        let d = decode-is m (take used before) row e in
+        rw (d .is) (numbers-bits m (unpack (take used before)) (omega (arith, d .order)))
+
+    pub append-bits : length (rowBits m row) ≤ 8 * used
+    append-bits =
+        omega (
+          arith,
+          ap length whole,
+          length-append (rowBits m row) (rest (parse m (unpack (take used before)))),
+          unpack-length (take used before),
+          length-take-le used before (g .inside),
+        )
+
+    begin : take (length (rowBits m row)) (unpack before) ≡ rowBits m row
+    begin =
+        sym (take-take (length (rowBits m row)) (8 * used) (unpack before) append-bits)
+        ∙ ap (take (length (rowBits m row))) (sym (unpack-take before used) ∙ sym whole)
+        ∙ take-append-seam (rowBits m row) (rest (parse m (unpack (take used before))))
+
+    module _ (legal : isNumber largest n ≡ true) (less : length row < longest) where
+      pub append-room : length before < byteCount (length (rowBits m row) + length (codeword m n)) → Appends m before used n before (refused 5 0)
+      append-room h =
+          answer m before used n (refused 5 0)
+          (given ∙ rw (e, legal, lt-leb longest (length row) less, longer, lt-ltb (length before) _ h) refl)
+
+      pub append-done : (after : List ℕ) → byteCount (length (rowBits m row) + length (codeword m n)) ≤ length before → Bytes before → Bytes after
+          → unpack after ≡ putAt (length (rowBits m row)) (codeword m n) (unpack before)
+          → Appends m before used n after (accepted (byteCount (length (rowBits m row) + length (codeword m n)), suc (length row)))
+      unfolding encoding
+      append-done after h bb ba p =
+          let a = answer m before used n (accepted (byteCount (length (rowBits m row) + length (codeword m n)), suc (length row)))
+          (given ∙ rw (e, legal, lt-leb longest (length row) less, longer, le-ltb (length before) _ h) refl) in
+          let bits : take (length (rowBits m row)) (unpack before) ++ codeword m n ≡ rowBits m (row ++ (n ∷ [])) =
+          ap (λ (l : List Bool). l ++ codeword m n) begin ∙ sym (bits-snoc m row n) in
+          let same : after ≡ encoding m (row ++ (n ∷ [])) ++ drop (length (encoding m (row ++ (n ∷ [])))) before =
+          put-packed before after (length (rowBits m row)) (codeword m n) (omega (arith, append-bits, g .inside)) bb ba p
+          ∙ ap (λ (b : List Bool). pack b ++ drop (length (pack b)) before) bits in
+          (a .0, same ∙ ap (λ (r : List ℕ). encoding m (r ++ (n ∷ [])) ++ drop (length (encoding m (r ++ (n ∷ [])))) before) (decode-is m (take used before) row e .is) ∙ a .1)
+
+      -- both, by what was found out about the room: r bytes are then in use, or 0 where they pass the buffer
+      module _ (after : List ℕ) (r bits k : ℕ) (eb : bits ≡ length (rowBits m row)) (ek : k ≡ n)
+          (fits : byteCount (bits + length (codeword m k)) ≤ length before
+          → (r ≡ byteCount (bits + length (codeword m k))) × (unpack after ≡ putAt bits (codeword m k) (unpack before)))
+          (bb : Bytes before) (ba : Bytes after) (passes : length before < byteCount (bits + length (codeword m k)) → (r ≡ 0) × (after ≡ before)) where
+        need : ℕ
+        need = byteCount (bits + length (codeword m k))
+
+        need-is : need ≡ byteCount (length (rowBits m row) + length (codeword m n))
+        unfolding need
+        need-is = rw (eb, ek) refl
+
+        need-some : 1 ≤ need
+        unfolding need
+        need-some =
+            let d = decode-is m (take used before) row e in
+            let is = number-is largest n legal in
+            omega (arith, ap (λ (x : ℕ). length (codeword m x)) ek, stem-long m n (size m n n 0) (d .order) (is .0) (is .1) refl .0, d .order)
+
+        pub append-none : r ≡ 0 → Appends m before used n after (refused 5 0)
+        unfolding need
+        append-none z =
+            elim (decLe need (length before)) [
+              | yes h ↦ absurd (omega (arith, fits h .0, need-some))
+              | no h ↦
+                  let p = passes (omega arith) in
+                  let a = append-room (omega (arith, need-is)) in (a .0, p .1 ∙ a .1)
+            ]
+
+        pub append-some : (r ≡ 0 → ⊥) → Appends m before used n after (accepted (r, suc (length row)))
+        unfolding need
+        append-some z =
+            elim (decLe need (length before)) [
+              | yes h ↦
+                  let f = fits h in
+                  let a = append-done after (omega (arith, need-is)) bb ba (rw (eb, ek) at (f .1)) in
+                  (ap (λ (x : ℕ). accepted (x, suc (length row))) (f .0 ∙ need-is) ∙ a .0, a .1)
+              | no h ↦ absurd (z (passes (omega arith) .0))
+            ]

@@ -1,0 +1,4 @@
+pub mod Codewords
+pub mod Rows
+pub mod Writing
+pub mod Appending

@@ -1,0 +1,41 @@
+-- Writing a row and appending to an encoding (paper 01, "When a call says no": Write, Append). The checks stand in the paper's order.
+use mathlib.Core.Bool.{not}
+use mathlib.Core.List.{List, [], _∷_, _++_}
+use Prim.Native.Nat.{ℕ, suc}
+use lib.Dec.{leb, ltb}
+use lib.ListN.{length, take}
+use Rattle.bits.specs.Bits.{unpack}
+use Rattle.fibonacci.specs.Encoding.{rowBits, encoding, numbers}
+use Rattle.fibonacci.specs.Calls.{Outcome, accepted, check, andThen, buffer, isOrder, isNumber, largest, longest, mostBytes, checkEach}
+use Rattle.decoder.specs.Reading.{decode}
+
+-- Write: 1 order not 2 to 6; 4 more than 4,096 numbers; 3 a number is 0; 5 the output is shorter than the encoding; else its bytes and bits
+unfoldable pub write : ℕ → List ℕ → ℕ → Outcome (ℕ × ℕ)
+write m row room =
+    check 1 0 (not (isOrder m))
+    (check 4 0 (ltb longest (length row))
+    (checkEach 3 largest 0 row
+    (check 5 0 (ltb room (length (encoding m row)))
+    (accepted (length (encoding m row), length (rowBits m row))))))
+
+-- The output after writing
+unfoldable pub writeInto : ℕ → List ℕ → List ℕ → List ℕ
+writeInto m row before = buffer (write m row (length before)) (encoding m row) before
+
+-- Append to the encoding in the first bytes of a buffer: 1; 2 bytes in use above 24,064 or above the buffer; 4, 7 and 6 as reading has them; 3 the number
+-- is 0; 4 the row has 4,096 already; 5 the longer encoding passes the buffer; else the new bytes in use and the new count
+unfoldable pub append : ℕ → List ℕ → ℕ → ℕ → Outcome (ℕ × ℕ)
+append m before used n =
+    check 1 0 (not (isOrder m))
+    (check 2 0 (ltb mostBytes used)
+    (check 2 0 (ltb (length before) used)
+    (andThen (decode m (take used before)) (λ row.
+    check 3 0 (not (isNumber largest n))
+    (check 4 0 (leb longest (length row))
+    (check 5 0 (ltb (length before) (length (encoding m (row ++ (n ∷ [])))))
+    (accepted (length (encoding m (row ++ (n ∷ []))), suc (length row)))))))))
+
+-- The buffer after appending: what writing the longer row gives
+unfoldable pub appendInto : ℕ → List ℕ → ℕ → ℕ → List ℕ
+appendInto m before used n =
+    buffer (append m before used n) (encoding m (numbers m (unpack (take used before)) ++ (n ∷ []))) before

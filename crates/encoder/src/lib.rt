@@ -1,0 +1,199 @@
+// Writing a row as its encoding of order 2 to 6, and appending a number to an encoding.
+ghost use mathlib.Core.Path.{_≡_};
+ghost use Prim.Native.Nat.{_+_, _*_, _^_, _≤_, _<_};
+ghost use lib.ListN.{length};
+ghost use Rattle.bits.specs.Bits.{wordBits, unpack, byteCount, putAt};
+ghost use Rattle.fibonacci.specs.Code.{F, first, size, codeword};
+ghost use Rattle.fibonacci.specs.Encoding.{rowBits};
+ghost use Rattle.fibonacci.specs.Tables.{Order, tableRow};
+ghost use Rattle.fibonacci.specs.Calls.{accepted, Legal, largest, longest, mostBytes, checkEach};
+ghost use Rattle.encoder.specs.Writing.{write, writeInto, append, appendInto};
+ghost use Rattle.encoder.specs.Answers.{writeOutcome, appendOutcome, measuredOutcome};
+
+// The answer of writing: the bytes and bits of the encoding, or why there is none.
+pub enum WriteAnswer {
+    Written { bytes: usize, bits: usize },
+    Order,
+    Count,
+    Number(usize),
+    Room,
+}
+
+// The answer of appending: the bytes now in use and the numbers in them, or why there are no more.
+pub enum AppendAnswer {
+    Appended { bytes: usize, count: usize },
+    Refused(decoder::Refusal),
+    Number,
+    Full,
+    Room,
+}
+
+enum Measured {
+    Bits(usize),
+    Fault(usize),
+}
+
+// How many bits of the codeword of n stand before its last ones: the largest d whose first number is at most n.
+fn stem(firsts: &[u32; 47], order: usize, n: u64) -> usize
+    requires { ⌜ Order order × (now firsts ≡ tableRow (first order)) × (1 ≤ n) × (n ≤ largest) ⌝ }
+    ensures { λ r. ⌜ r ≡ size order n n 0 ⌝ }
+{
+    let mut d: usize = 0;
+    loop {
+        let next = fibonacci::first_number(firsts, order, d + 1);
+        if next == 0 || n < next {
+            return d;
+        }
+        d += 1;
+    }
+}
+
+// The codeword of n as a word, where d of its bits stand before its last ones: those ones, and in front of them the digits, the highest first.
+fn word(positions: &[u32; 47], firsts: &[u32; 47], order: usize, n: u64, d: usize) -> u64
+    requires { ⌜ Order order × (now positions ≡ tableRow (F order)) × (now firsts ≡ tableRow (first order)) × (1 ≤ n) × (n ≤ largest) × (d ≡ size order n n 0) ⌝ }
+    ensures { λ r. ⌜ (wordBits (d + order) r ≡ codeword order n) × (r < 2 ^ (d + order)) ⌝ }
+{
+    let mut w: u64 = (1 << order) - 1;
+    let mut left = n - fibonacci::first_number(firsts, order, d);
+    for i in 0..d {
+        let f = fibonacci::position(positions, order, d - i);
+        if f <= left {
+            left -= f;
+            w += 1 << (order + i);
+        }
+    }
+    w
+}
+
+// The codeword writer: the codeword of n after the first o bits of a part of a buffer, then zeros to the end of the byte; the result is its length.
+// Whoever writes has seen that it fits.
+fn put_codeword(
+    part: &mut [u8],
+    o: usize,
+    positions: &[u32; 47],
+    firsts: &[u32; 47],
+    order: usize,
+    n: u64,
+) -> usize
+    requires { ⌜ Order order × (now positions ≡ tableRow (F order)) × (now firsts ≡ tableRow (first order)) × (1 ≤ n) × (n ≤ largest) × (o < 8) × (o + length (codeword order n) ≤ 8 * length (now part)) ⌝ }
+    ensures { λ r. ⌜ (r ≡ length (codeword order n)) × (unpack (now (part .exit)) ≡ putAt o (codeword order n) (unpack (now (part .entry)))) ⌝ }
+{
+    let d = stem(firsts, order, n);
+    let w = word(positions, firsts, order, n, d);
+    bits::put_word(part, o, w, d + order);
+    d + order
+}
+
+// How many bits the codewords of a row have, or the place of the first number that is 0 or above the limit.
+fn measure(firsts: &[u32; 47], order: usize, row: &[u32], limit: u64) -> Measured
+    requires { ⌜ Order order × (now firsts ≡ tableRow (first order)) × (length (now row) ≤ longest) × (limit ≤ largest) ⌝ }
+    ensures { λ r. ⌜ measuredOutcome r ≡ checkEach 3 limit 0 (now (row .entry)) (accepted (length (rowBits order (now (row .entry))))) ⌝ }
+{
+    let mut bits: usize = 0;
+    for i in 0..row.len() {
+        let n = fibonacci::wide(row[i]);
+        if !fibonacci::is_number(n, limit) {
+            return Measured::Fault(i);
+        }
+        bits += stem(firsts, order, n) + order;
+    }
+    Measured::Bits(bits)
+}
+
+// The codewords of a row from the front of a buffer, in which they fit.
+fn put_row(out: &mut [u8], positions: &[u32; 47], firsts: &[u32; 47], order: usize, row: &[u32])
+    requires { ⌜ Order order × (now positions ≡ tableRow (F order)) × (now firsts ≡ tableRow (first order)) × (length (now row) ≤ longest) × Legal largest (now row) × (length (rowBits order (now row)) ≤ 8 * length (now out)) ⌝ }
+    ensures { λ r. ⌜ unpack (now (out .exit)) ≡ putAt 0 (rowBits order (now (row .entry))) (unpack (now (out .entry))) ⌝ }
+{
+    let mut at: usize = 0;
+    for i in 0..row.len() {
+        let k = at / 8;
+        at += put_codeword(
+            &mut out[k..],
+            at % 8,
+            positions,
+            firsts,
+            order,
+            fibonacci::wide(row[i]),
+        );
+    }
+}
+
+// Writes a row. It is measured first, as a refusal must leave the output as it was.
+pub fn write(order: usize, row: &[u32], out: &mut [u8]) -> WriteAnswer
+    ensures { λ r. ⌜ (writeOutcome r ≡ write order (now (row .entry)) (length (now (out .entry)))) × (now (out .exit) ≡ writeInto order (now (row .entry)) (now (out .entry))) ⌝ }
+{
+    if !fibonacci::is_order(order) {
+        return WriteAnswer::Order;
+    }
+    if row.len() > 4096 {
+        return WriteAnswer::Count;
+    }
+    let firsts = fibonacci::first_numbers(order);
+    let measured = measure(&firsts, order, row, 4294967295);
+    match measured {
+        Measured::Fault(place) => WriteAnswer::Number(place),
+        Measured::Bits(bits) => {
+            let bytes = (bits + 7) / 8;
+            if out.len() < bytes {
+                return WriteAnswer::Room;
+            }
+            let positions = fibonacci::positions(order);
+            put_row(out, &positions, &firsts, order, row);
+            WriteAnswer::Written { bytes, bits }
+        }
+    }
+}
+
+// The codeword of n after the first bits of a buffer, from the byte with the first free bit. The result is how many bytes are then in use; where they pass
+// the buffer, it is 0 and nothing changes.
+fn extend(order: usize, buf: &mut [u8], bits: usize, n: u64) -> usize
+    requires { ⌜ Order order × (1 ≤ n) × (n ≤ largest) × (bits ≤ 8 * mostBytes) ⌝ }
+    ensures { λ r. ⌜ (byteCount (bits + length (codeword order n)) ≤ length (now (buf .entry)) → (r ≡ byteCount (bits + length (codeword order n))) × (unpack (now (buf .exit)) ≡ putAt bits (codeword order n) (unpack (now (buf .entry))))) × (length (now (buf .entry)) < byteCount (bits + length (codeword order n)) → (r ≡ 0) × (now (buf .exit) ≡ now (buf .entry))) ⌝ }
+{
+    let firsts = fibonacci::first_numbers(order);
+    let bytes = (bits + stem(&firsts, order, n) + order + 7) / 8;
+    if buf.len() < bytes {
+        return 0;
+    }
+    let positions = fibonacci::positions(order);
+    let k = bits / 8;
+    put_codeword(&mut buf[k..], bits % 8, &positions, &firsts, order, n);
+    bytes
+}
+
+// Appends a number to the encoding in the first `used` bytes of a buffer.
+pub fn append(order: usize, buf: &mut [u8], used: usize, n: u32) -> AppendAnswer
+    ensures { λ r. ⌜ (appendOutcome r ≡ append order (now (buf .entry)) used n) × (now (buf .exit) ≡ appendInto order (now (buf .entry)) used n) ⌝ }
+{
+    if !fibonacci::is_order(order) {
+        return AppendAnswer::Refused(decoder::Refusal::Order);
+    }
+    if used > 24064 {
+        return AppendAnswer::Refused(decoder::Refusal::Bytes);
+    }
+    if used > buf.len() {
+        return AppendAnswer::Refused(decoder::Refusal::Bytes);
+    }
+    let mut row: [u32; 1] = [0];
+    let scanned = decoder::scan(order, &buf[0..used], 0, 0, &mut row);
+    match scanned {
+        decoder::ScanAnswer::Refused(r) => AppendAnswer::Refused(r),
+        decoder::ScanAnswer::Row(f) => {
+            if !fibonacci::is_number(fibonacci::wide(n), 4294967295) {
+                return AppendAnswer::Number;
+            }
+            if f.count == 4096 {
+                return AppendAnswer::Full;
+            }
+            let bytes = extend(order, buf, f.bits, fibonacci::wide(n));
+            if bytes == 0 {
+                return AppendAnswer::Room;
+            }
+            AppendAnswer::Appended {
+                bytes,
+                count: f.count + 1,
+            }
+        }
+    }
+}
