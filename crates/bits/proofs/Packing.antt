@@ -7,10 +7,10 @@ use Prim.Native.Nat.{ℕ, zero, suc, _+_, _-_, _*_, _%_, _^_, _≤_, _<_}
 use native.Mathlib.Omega.{arith}
 use native.Mathlib.Nat.{zero-add, suc-add, two-pow-succ, mod-eq-of-lt}
 use native.Mathlib.Decide.{decLe}
-use lib.ListN.{length, getD, drop, replicate, replicate-append-replicate}
+use lib.ListN.{length, drop, replicate, replicate-append-replicate}
 use lib.Seq.{drop-nil, drop-at, getD-drop}
 use lib.Pow.{mod-pow-add}
-use Rattle.bits.specs.Bits.{wordBits, unpack, wordOf, bytesOf, byteCount, pack, padding}
+use Rattle.bits.specs.Bits.{wordBits, unpack, wordOf, bytesOf, byteCount, pack, padding, Bytes}
 use Rattle.bits.proofs.Words.{words-length, words-cons, words-zero, worth-bit}
 use Rattle.bits.proofs.Bytes.{unpack-length}
 
@@ -109,7 +109,7 @@ word-of-bits (suc n) x t =
     let e : 1 + n ≡ suc n = omega arith in
     ap₂ (λ (u v : ℕ). u * 2 ^ n + v) (worth-bit x n) (word-of-bits n x t) ∙ sym (mod-pow-add x 1 n) ∙ ap (λ (k : ℕ). x % 2 ^ k) e
 
-bytes-unpack : (s : List ℕ) → ((i : ℕ) → getD s i 0 < 256) → bytesOf (length s) (unpack s) ≡ s
+bytes-unpack : (s : List ℕ) → Bytes s → bytesOf (length s) (unpack s) ≡ s
 unfolding bytesOf unpack flatten
 bytes-unpack [] h = refl
 bytes-unpack (b ∷ s) h =
@@ -118,17 +118,13 @@ bytes-unpack (b ∷ s) h =
     (ap (bytesOf (length s)) (drop-at (wordBits 8 b) (unpack s) 8 (words-length 8 b)) ∙ bytes-unpack s (λ i. h (suc i)))
 
 -- Packing the bits of bytes gives the bytes
-pub pack-unpack : (s : List ℕ) → ((i : ℕ) → getD s i 0 < 256) → pack (unpack s) ≡ s
+pub pack-unpack : (s : List ℕ) → Bytes s → pack (unpack s) ≡ s
 unfolding pack
 pack-unpack s h =
     let e : byteCount (length (unpack s)) ≡ length s = omega (arith, unpack-length s) in
     ap (λ (c : ℕ). bytesOf c (unpack s)) e ∙ bytes-unpack s h
 
 -- ## Bytes
-
--- each element is below 256
-abbrev pub Bytes : List ℕ → Type 0
-Bytes s = (i : ℕ) → getD s i 0 < 256
 
 pub bytes-append : (s t : List ℕ) → Bytes s → Bytes t → Bytes (s ++ t)
 bytes-append [] t hs ht i = ht i

@@ -1,5 +1,5 @@
 -- When an encoding is read and what then is known of it; the answers by what a scan found.
-use mathlib.Core.Path.{_≡_, refl, sym, ap, _∙_}
+use mathlib.Core.Path.{_≡_, refl, sym, ap, ap₂, _∙_}
 use mathlib.Core.Bool.{Bool, true, false, not}
 use mathlib.Core.List.{List, [], _∷_, _++_}
 use Prim.Native.Nat.{ℕ, suc, _+_, _*_, _≤_, _<_}
@@ -13,11 +13,12 @@ use Rattle.fibonacci.specs.Code.{sum}
 use Rattle.fibonacci.specs.Encoding.{rowBits, rest, parse, numbers}
 use Rattle.fibonacci.specs.Tables.{Order}
 use Rattle.fibonacci.specs.Calls.{Outcome, accepted, refused, andThen, isOrder, isNumber, Legal, largest, longest, mostBytes}
-use Rattle.fibonacci.proofs.Checks.{order-is, is-order, number-is, check-passed, not-both, accepted-one, refused-same}
+use Rattle.fibonacci.proofs.Checks.{order-is, is-order, number-is, check-passed, then-passed, not-both, accepted-one, refused-same}
 use Rattle.decoder.specs.declared.Refusal.{Refusal}
 use Rattle.decoder.specs.declared.Found.{Found}
 use Rattle.decoder.specs.Answers.{refusal, found, Stored}
 use Rattle.decoder.proofs.Scanning.{finished-all, rest-good}
+use Rattle.decoder.specs.Demand.{ReturnsParse}
 use Rattle.decoder.specs.Reading.{checkFinished, contents, decode, read, readInto, total, repeatedTotal}
 
 -- ## The checks of order and length
@@ -105,6 +106,14 @@ stored-row d before after row st e h =
     let at : after ≡ row ++ drop (0 + length row) before = st' ∙ sets-eq row before 0 (omega arith) in
     (ap (take (length row)) at ∙ take-append-seam row (drop (0 + length row) before), ap length st' ∙ length-sets before 0 row)
 
+pub read-is : (m : ℕ) (s : List ℕ) (room count : ℕ) → read m s room ≡ accepted count
+    → (row : List ℕ) × (decode m s ≡ accepted row) × (count ≡ length row) × (length row ≤ room)
+unfolding read
+read-is m s room count e =
+    let t = then-passed (decode m s) _ count e in
+    let p = check-passed 5 0 (ltb room (length (t .0))) _ count (t .2) in
+    (t .0, t .1, sym (accepted-one (p .1)), ltb-false room (length (t .0)) (p .0))
+
 module _ (m : ℕ) (s before row : List ℕ) (e : decode m s ≡ accepted row) where
   pub read-row : length row ≤ length before
       → (accepted (length row) ≡ read m s (length before)) × (row ++ drop (length row) before ≡ readInto m s before)
@@ -120,6 +129,13 @@ module _ (m : ℕ) (s before row : List ℕ) (e : decode m s ≡ accepted row) w
 pub read-refused : (m : ℕ) (s before : List ℕ) (n p : ℕ) → decode m s ≡ refused n p → (refused n p ≡ read m s (length before)) × (before ≡ readInto m s before)
 unfolding read readInto
 read-refused m s before n p e = let a : refused n p ≡ read m s (length before) = rw e refl in (a, rw (← a) refl)
+
+-- Demand 3's last sentence, for the decoder
+pub read-parse : (m : ℕ) → ReturnsParse m (read m) (readInto m)
+read-parse m s before n e =
+    let i = read-is m s (length before) n e in
+    let same : i .0 ≡ numbers m (unpack s) = decode-is m s (i .0) (i .1) .is in
+    (i .2 ∙ ap length same, sym (read-row m s before (i .0) (i .1) (i .3) .1) ∙ ap₂ (λ (r : List ℕ) (k : ℕ). r ++ drop k before) same (sym (i .2)))
 
 -- ## Totals
 

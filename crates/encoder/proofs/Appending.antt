@@ -9,9 +9,9 @@ use lib.Dec.{leb, ltb}
 use lib.ListN.{length, take, drop, length-append}
 use lib.Seq.{length-take-le, take-append-seam, take-take}
 use borrow.Author.Tests.{le-leb, lt-leb, lt-ltb, le-ltb}
-use Rattle.bits.specs.Bits.{byteCount, unpack, pack, putAt}
+use Rattle.bits.specs.Bits.{Bytes, byteCount, unpack, pack, putAt}
 use Rattle.bits.proofs.Bytes.{unpack-length, unpack-take}
-use Rattle.bits.proofs.Packing.{Bytes, pack-length}
+use Rattle.bits.proofs.Packing.{pack-length}
 use Rattle.bits.proofs.Put.{put-packed}
 use Rattle.fibonacci.specs.Code.{size, codeword}
 use Rattle.fibonacci.specs.Encoding.{rowBits, encoding, rest, parse, numbers}
@@ -58,7 +58,7 @@ pub record Given (m : ℕ) (before : List ℕ) (used : ℕ) : Type 0 where
 
 module _ (m : ℕ) (before : List ℕ) (used n : ℕ) (g : Given m before used) where
   -- so the encoding decides
-  given : append m before used n ≡ andThen (decode m (take used before)) (λ row.
+  pub given : append m before used n ≡ andThen (decode m (take used before)) (λ row.
       check 3 0 (not (isNumber largest n))
       (check 4 0 (leb longest (length row))
       (check 5 0 (ltb (length before) (length (encoding m (row ++ (n ∷ [])))))

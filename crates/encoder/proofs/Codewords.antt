@@ -39,12 +39,12 @@ stem-end m n d x p h l a e end =
 pub stem-more : (m n d x : ℕ) → Order m → x ≡ bounded (first m (d + 1)) → (x ≡ 0 → ⊥) → x ≤ n → (d + 1 < 47) × (first m (d + 1) ≤ n)
 stem-more m n d x o e z l =
     elim (decLe (first m (d + 1)) largest) [
-      | yes b ↦ (first-within m o (d + 1) b, omega (arith, bounded-is _ b))
+      | yes b ↦ (omega (arith, first-within m o (d + 1) b), omega (arith, bounded-is _ b))
       | no b ↦ absurd (z (e ∙ bounded-not _ (omega arith)))
     ]
 
 -- what it finds says how long the codeword is
-pub stem-long : (m n d : ℕ) → Order m → 1 ≤ n → n ≤ largest → d ≡ size m n n 0 → (length (codeword m n) ≡ d + m) × (d < 47)
+pub stem-long : (m n d : ℕ) → Order m → 1 ≤ n → n ≤ largest → d ≡ size m n n 0 → (length (codeword m n) ≡ d + m) × (d + m ≤ 47)
 unfolding codeword
 stem-long m n d o h l e =
     let a = codeword-size m n (omega arith) h in

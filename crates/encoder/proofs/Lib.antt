@@ -2,3 +2,4 @@ pub mod Codewords
 pub mod Rows
 pub mod Writing
 pub mod Appending
+pub mod RoundTrip

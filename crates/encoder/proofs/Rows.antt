@@ -58,8 +58,8 @@ bits-end : (m i : ℕ) (row : List ℕ) → length row ≤ i → rowBits m (drop
 unfolding rowBits flatten
 bits-end m i row h = rw (drop-of-length-le row {i = i} h)
 
--- a codeword of a legal number has at most 52 bits (it is 47, but 52 is enough here)
-pub bits-few : (m : ℕ) (row : List ℕ) → Order m → Legal largest row → length (rowBits m row) ≤ 52 * length row
+-- a codeword of a legal number has at most 47 bits
+pub bits-few : (m : ℕ) (row : List ℕ) → Order m → Legal largest row → length (rowBits m row) ≤ 47 * length row
 unfolding rowBits flatten
 bits-few m [] o a = omega arith
 bits-few m (n ∷ row) o a =
@@ -72,7 +72,7 @@ bits-few m (n ∷ row) o a =
 abbrev pub Counted : ℕ → ℕ → List ℕ → ℕ → ℕ → Type 0
 Counted m limit row i bits =
     let total : ℕ = length (rowBits m row) in
-    (bits ≤ 52 * i) × (bits + length (rowBits m (drop i row)) ≡ total)
+    (bits ≤ 47 * i) × (bits + length (rowBits m (drop i row)) ≡ total)
     × (checkEach 3 limit 0 row (accepted total) ≡ checkEach 3 limit i (drop i row) (accepted total))
 
 pub counted-none : (m limit : ℕ) (row : List ℕ) → Counted m limit row 0 0

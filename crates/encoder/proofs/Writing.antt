@@ -6,8 +6,8 @@ use Prim.Native.Nat.{ℕ, _*_, _≤_, _<_}
 use native.Mathlib.Omega.{arith}
 use lib.ListN.{length}
 use borrow.Author.Tests.{lt-ltb, le-ltb}
-use Rattle.bits.specs.Bits.{byteCount, unpack, putAt}
-use Rattle.bits.proofs.Packing.{Bytes, pack-length}
+use Rattle.bits.specs.Bits.{Bytes, byteCount, unpack, putAt}
+use Rattle.bits.proofs.Packing.{pack-length}
 use Rattle.bits.proofs.Put.{put-packed}
 use Rattle.fibonacci.specs.Encoding.{rowBits, encoding}
 use Rattle.fibonacci.specs.Calls.{Outcome, accepted, refused, buffer, isOrder, Legal, largest, longest, checkEach}
@@ -46,7 +46,7 @@ pub record Passed (m : ℕ) (row : List ℕ) (bits : ℕ) : Type 0 where
   pub legal : Legal largest row
   pub long : length (rowBits m row) ≡ bits
 
-pub passed-few : (m : ℕ) (row : List ℕ) (bits : ℕ) → Passed m row bits → bits ≤ 52 * longest
+pub passed-few : (m : ℕ) (row : List ℕ) (bits : ℕ) → Passed m row bits → bits ≤ 47 * longest
 passed-few m row bits p = omega (arith, p .long, p .count, bits-few m row (order-is m (p .order)) (p .legal))
 
 module _ (m : ℕ) (row before : List ℕ) (bits : ℕ) (p : Passed m row bits) where

@@ -6,7 +6,7 @@ use Prim.Native.Nat.{ℕ, suc, _≤_, _<_}
 use native.Mathlib.Omega.{arith}
 use lib.Dec.{leb}
 use borrow.Author.Tests.{le-leb, lt-leb, leb-true, not-false}
-use Rattle.fibonacci.specs.Calls.{Outcome, accepted, refused, check, within, isOrder, isNumber, Legal, checkEach}
+use Rattle.fibonacci.specs.Calls.{Outcome, accepted, refused, check, andThen, within, isOrder, isNumber, Legal, checkEach}
 use Rattle.fibonacci.specs.Tables.{Order}
 
 -- ## One number
@@ -56,6 +56,12 @@ pub check-passed : {A : Type 0} (number place : ℕ) (t : Bool) (next : Outcome 
     → (t ≡ false) × (next ≡ accepted x)
 check-passed number place true next x e = absurd (not-both e)
 check-passed number place false next x e = (refl, e)
+
+-- what goes on after an accepted part has that part
+pub then-passed : {A B : Type 0} (d : Outcome A) (next : A → Outcome B) (x : B) → andThen d next ≡ accepted x
+    → (y : A) × (d ≡ accepted y) × (next y ≡ accepted x)
+then-passed (accepted y) next x e = (y, refl, e)
+then-passed (refused n p) next x e = absurd (not-both e)
 
 -- two chains that begin with the same check refuse alike where what comes after does
 either : {A B : Type 0} (number place : ℕ) (t : Bool) (x : Outcome A) (y : Outcome B) (k at : ℕ) → (x ≡ refused k at → y ≡ refused k at)

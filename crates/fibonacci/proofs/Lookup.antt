@@ -42,13 +42,14 @@ each-order t v e m h =
     ap t (sym k) ∙ sym (values-at t 2 5 (m - 2) v (omega arith)) ∙ ap (λ (l : List Bool). getD l (m - 2) v) e
     ∙ getD-replicate 5 (m - 2) v v (omega arith)
 
-pub F-over : (m : ℕ) → Order m → largest < F m 47
+F-over : (m : ℕ) → Order m → largest < F m 47
 unfolding F past
 F-over m h = leb-false _ _ (each-order (λ m. leb (F m 47) largest) false refl m h)
 
-pub first-over : (m : ℕ) → Order m → largest < first m 47
+-- a codeword of 48 bits
+first-over : (m : ℕ) → Order m → largest < first m (48 - m)
 unfolding first F past
-first-over m h = leb-false _ _ (each-order (λ m. leb (first m 47) largest) false refl m h)
+first-over m h = leb-false _ _ (each-order (λ m. leb (first m (48 - m)) largest) false refl m h)
 
 -- the first numbers of few bits are small
 pub first-few : (m d : ℕ) → Order m → d ≤ 8 → first m d ≤ largest
@@ -84,14 +85,14 @@ module _ (m : ℕ) (h : Order m) where
   pub position-at : (j z : ℕ) → F m j ≤ largest → getD (tableRow (F m)) j z ≡ F m j
   position-at j z b = entry-at (F m) j z (position-within j b) ∙ bounded-is (F m j) b
 
-  -- every first number up to the largest number stands in the row
-  pub first-within : (d : ℕ) → first m d ≤ largest → d < 47
+  -- the longest codeword of a legal number has 47 bits
+  pub first-within : (d : ℕ) → first m d ≤ largest → d + m ≤ 47
   first-within d b =
-      elim (decLe 47 d) [
+      elim (decLe (48 - m) d) [
         | yes l ↦ absurd (omega (arith, first-over m h, first-rises m l))
         | no l ↦ omega arith
       ]
 
   -- past the row every first number is above the largest number
   pub first-past : (d : ℕ) → 47 ≤ d → bounded (first m d) ≡ 0
-  first-past d l = bounded-not (first m d) (omega (arith, first-over m h, first-rises m l))
+  first-past d l = bounded-not (first m d) (omega (arith, first-over m h, first-rises m {j = 48 - m} {k = d} (omega arith)))

@@ -1,5 +1,5 @@
 use mathlib.Core.Path.{_≡_, refl}
-use Prim.Native.Nat.{_+_, _<_}
+use Prim.Native.Nat.{_+_, _≤_}
 use native.Mathlib.Omega.{arith}
 use lib.ListN.{length}
 use borrow.Author.Needs.{needs}
@@ -18,7 +18,7 @@ stem-requires c κs = search needs
 -- how long the codeword is
 long : (c : tie.After-stem)
     → let a = c .before .before .before .before .args in
-    (length (codeword (a .order) (a .n)) ≡ c .stem .result + a .order) × (c .stem .result < 47)
+    (length (codeword (a .order) (a .n)) ≡ c .stem .result + a .order) × (c .stem .result + a .order ≤ 47)
 long c =
     let a = c .before .before .before .before .args in
     let p = c .before .before .before .before .pre in

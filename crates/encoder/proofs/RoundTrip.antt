@@ -1,0 +1,269 @@
+-- Writing, reading and appending agree.
+use mathlib.Core.Path.{_≡_, refl, sym, ap, ap₂, _∙_}
+use mathlib.Core.Bool.{Bool, true, false, not}
+use mathlib.Core.List.{List, [], _∷_, _++_, append-assoc, append-nil, flatten}
+use Prim.Native.Nat.{ℕ, zero, suc, _+_, _-_, _*_, _≤_}
+use native.Mathlib.Omega.{arith}
+use native.Mathlib.Nat.{suc-mul}
+use lib.Dec.{ltb}
+use lib.ListN.{length, take, drop, replicate, length-append, length-drop, length-replicate}
+use lib.Seq.{take-all, take-append-seam, drop-append-add, drop-drop}
+use borrow.Author.Tests.{lt-leb, le-ltb, ltb-false, not-false}
+use Rattle.bits.specs.Bits.{Bytes, unpack, bytesOf, pack, padding, count}
+use Rattle.bits.proofs.Bytes.{unpack-length}
+use Rattle.bits.proofs.Packing.{unpack-pack, padding-below, pack-length, pack-bytes, unpack-apart}
+use Rattle.fibonacci.specs.Code.{sum}
+use Rattle.fibonacci.specs.Encoding.{Positive, rowBits, encoding, rest, parse}
+use Rattle.fibonacci.specs.Tables.{Order}
+use Rattle.fibonacci.specs.Calls.{accepted, isOrder, isNumber, Legal, largest, longest}
+use Rattle.fibonacci.proofs.Checks.{order-is, is-order, number-is, is-number, check-passed, accepted-one, each-passed, each-accepted}
+use Rattle.fibonacci.proofs.Rows.{bits-append, numbers-bits, encoding-parse, encoding-read}
+use Rattle.decoder.specs.Reading.{decode, read, readInto, total, repeatedTotal}
+use Rattle.decoder.proofs.Decoding.{decode-is, decode-accepts, read-is, read-row, total-sum, repeated-sum}
+use Rattle.encoder.specs.Writing.{write, writeInto, append, appendInto}
+use Rattle.encoder.specs.RoundTrip.{RoundTrip, appendAll}
+use Rattle.encoder.proofs.Rows.{bits-few}
+use Rattle.encoder.proofs.Appending.{Given, given}
+
+-- ## What is accepted
+
+-- a row that writing accepts
+pub record Writable (m : ℕ) (row : List ℕ) (room : ℕ) : Type 0 where
+  pub order : Order m
+  pub count : length row ≤ longest
+  pub legal : Legal largest row
+  pub fits : length (encoding m row) ≤ room
+
+pub write-is : (m : ℕ) (row : List ℕ) (room bytes bits : ℕ) → write m row room ≡ accepted (bytes, bits)
+    → Writable m row room × (bytes ≡ length (encoding m row)) × (bits ≡ length (rowBits m row))
+unfolding write
+write-is m row room bytes bits e =
+    let p1 = check-passed 1 0 (not (isOrder m)) _ _ e in
+    let p4 = check-passed 4 0 (ltb longest (length row)) _ _ (p1 .1) in
+    let p3 = each-accepted 3 largest 0 row _ _ (p4 .1) in
+    let p5 = check-passed 5 0 (ltb room (length (encoding m row))) _ _ (p3 .1) in
+    let same : _≡_ {A = ℕ × ℕ} (length (encoding m row), length (rowBits m row)) (bytes, bits) = accepted-one (p5 .1) in (
+      record {
+        order = order-is m (not-false _ (p1 .0));
+        count = ltb-false longest (length row) (p4 .0);
+        legal = p3 .0;
+        fits = ltb-false room (length (encoding m row)) (p5 .0);
+      },
+      sym (ap (λ (x : ℕ × ℕ). x .0) same),
+      sym (ap (λ (x : ℕ × ℕ). x .1) same),
+    )
+
+pub write-accepts : (m : ℕ) (row : List ℕ) (room : ℕ) → Writable m row room → write m row room ≡ accepted (length (encoding m row), length (rowBits m row))
+unfolding write
+write-accepts m row room w =
+    rw (is-order m (w .order), le-ltb longest (length row) (w .count), each-passed 3 largest 0 row _ (w .legal), le-ltb room (length (encoding m row)) (w .fits)) refl
+
+-- ## Reading what was written
+
+positive : (row : List ℕ) → Legal largest row → Positive row
+positive [] a = tt
+positive (n ∷ row) a = (number-is largest n (a .0) .0, positive row (a .1))
+
+zeros-none : (k : ℕ) → count true (replicate k false) ≡ 0
+unfolding count
+zeros-none zero = refl
+zeros-none (suc k) = omega (arith, zeros-none k)
+
+pub decode-encoding : (m : ℕ) (row : List ℕ) → Order m → length row ≤ longest → Legal largest row → decode m (encoding m row) ≡ accepted row
+unfolding encoding
+decode-encoding m row o c a =
+    let parse-is = encoding-parse m row (omega arith) (positive row a) in
+    let rest-is : rest (parse m (unpack (encoding m row))) ≡ replicate (padding (length (rowBits m row))) false = ap rest parse-is in
+    decode-accepts m (encoding m row) row
+    (record {
+      order = o;
+      bytes = omega (arith, pack-length (rowBits m row), bits-few m row o a);
+      is = sym (encoding-read m row (omega arith) (positive row a));
+      legal = a;
+      long = c;
+      short = rw rest-is (omega (arith, length-replicate (padding (length (rowBits m row))) false, padding-below (length (rowBits m row))));
+      zeros = rw rest-is (zeros-none (padding (length (rowBits m row))));
+    })
+
+-- ## Writing what was read
+
+none-zeros : (b : List Bool) → count true b ≡ 0 → b ≡ replicate (length b) false
+unfolding count
+none-zeros [] e = refl
+none-zeros (false ∷ b) e = ap (λ (l : List Bool). false ∷ l) (none-zeros b (omega arith))
+none-zeros (true ∷ b) e = absurd (omega arith)
+
+pub decoded-encoding : (m : ℕ) (s row : List ℕ) → Bytes s → decode m s ≡ accepted row → s ≡ encoding m row
+unfolding encoding padding
+decoded-encoding m s row b e =
+    let d = decode-is m s row e in
+    let r : List Bool = rest (parse m (unpack s)) in
+    let whole : rowBits m row ++ r ≡ unpack s = rw (d .is) (numbers-bits m (unpack s) (omega (arith, d .order))) in
+    let fill : length r ≡ padding (length (rowBits m row)) =
+    omega (arith, d .short, ap length whole, length-append (rowBits m row) r, unpack-length s) in
+    unpack-apart s (encoding m row) b (pack-bytes (rowBits m row))
+    (sym whole ∙ ap (λ (l : List Bool). rowBits m row ++ l) (none-zeros r (d .zeros) ∙ ap (λ (k : ℕ). replicate k false) fill) ∙ sym (unpack-pack (rowBits m row)))
+
+-- ## Appending
+
+-- an encoding, and after it what stood in the buffer
+abbrev front : ℕ → List ℕ → List ℕ → List ℕ
+front m row before = encoding m row ++ drop (length (encoding m row)) before
+
+-- a row's encoding is no longer than that of a row that it begins
+encoding-grows : (m : ℕ) (row ns : List ℕ) → length (encoding m row) ≤ length (encoding m (row ++ ns))
+unfolding encoding
+encoding-grows m row ns =
+    omega (
+      arith,
+      pack-length (rowBits m row),
+      pack-length (rowBits m (row ++ ns)),
+      ap length (bits-append m row ns),
+      length-append (rowBits m row) (rowBits m ns),
+    )
+
+legal-begin : (row ns : List ℕ) → Legal largest (row ++ ns) → Legal largest row
+legal-begin [] ns a = tt
+legal-begin (n ∷ row) ns a = (a .0, legal-begin row ns (a .1))
+
+legal-last : (row : List ℕ) (n : ℕ) → Legal largest (row ++ (n ∷ [])) → isNumber largest n ≡ true
+legal-last [] n a = a .0
+legal-last (k ∷ row) n a = legal-last row n (a .1)
+
+module _ (m : ℕ) (row before : List ℕ) (n : ℕ) (w : Writable m (row ++ (n ∷ [])) (length before)) where
+  abbrev used : ℕ
+  used = length (encoding m row)
+
+  used-less : used ≤ length (encoding m (row ++ (n ∷ [])))
+  used-less = encoding-grows m row (n ∷ [])
+
+  front-length : length (front m row before) ≡ length before
+  front-length =
+      omega (arith, length-append (encoding m row) (drop used before), length-drop used before, used-less, w .fits)
+
+  front-decode : decode m (take used (front m row before)) ≡ accepted row
+  front-decode =
+      ap (decode m) (take-append-seam (encoding m row) (drop used before))
+      ∙ decode-encoding m row (w .order) (omega (arith, w .count, length-append row (n ∷ []))) (legal-begin row (n ∷ []) (w .legal))
+
+  front-given : Given m (front m row before) used
+  front-given =
+      let d = decode-is m _ row front-decode in
+      record {
+        order = is-order m (w .order);
+        bytes = omega (arith, d .bytes, ap length (take-append-seam (encoding m row) (drop used before)));
+        inside = omega (arith, front-length, used-less, w .fits);
+      }
+
+  front-append : append m (front m row before) used n ≡ accepted (length (encoding m (row ++ (n ∷ []))), suc (length row))
+  front-append =
+      given m (front m row before) used n front-given
+      ∙ rw (
+        front-decode,
+        legal-last row n (w .legal),
+        lt-leb longest (length row) (omega (arith, w .count, length-append row (n ∷ []))),
+        front-length,
+        le-ltb (length before) (length (encoding m (row ++ (n ∷ [])))) (w .fits),
+      ) refl
+
+  front-into : appendInto m (front m row before) used n ≡ front m (row ++ (n ∷ [])) before
+  unfolding appendInto
+  front-into =
+      let new : List ℕ = encoding m (row ++ (n ∷ [])) in
+      let k : ℕ = length new - used in
+      let at : used + k ≡ length new = omega (arith, used-less) in
+      let later : drop (length new) (front m row before) ≡ drop (length new) before =
+      ap (λ (j : ℕ). drop j (front m row before)) (sym at) ∙ drop-append-add (encoding m row) (drop used before) k
+      ∙ drop-drop k used before ∙ ap (λ (j : ℕ). drop j before) at in
+      rw (front-append, ← decode-is m (take used (front m row before)) row front-decode .is) (ap (λ (l : List ℕ). new ++ l) later)
+
+append-all : (m : ℕ) (row ns before : List ℕ) → Writable m (row ++ ns) (length before)
+    → appendAll m (front m row before) (length (encoding m row)) ns ≡ (front m (row ++ ns) before, length (encoding m (row ++ ns)))
+append-all m row [] before w = ap (λ (r : List ℕ). (front m r before, length (encoding m r))) (sym (append-nil row))
+append-all m row (n ∷ ns) before w =
+    let later : Writable m ((row ++ (n ∷ [])) ++ ns) (length before) = rw (append-assoc row (n ∷ []) ns) w in
+    let next : Writable m (row ++ (n ∷ [])) (length before) =
+    record {
+      order = later .order;
+      count = omega (arith, later .count, length-append (row ++ (n ∷ [])) ns);
+      legal = legal-begin (row ++ (n ∷ [])) ns (later .legal);
+      fits = omega (arith, later .fits, encoding-grows m (row ++ (n ∷ [])) ns);
+    } in
+    rw (front-into m row before n next, front-append m row before n next)
+    (append-all m (row ++ (n ∷ [])) ns before later ∙ ap (λ (r : List ℕ). (front m r before, length (encoding m r))) (append-assoc row (n ∷ []) ns))
+
+-- ## All of it
+
+write-into : (m : ℕ) (row before : List ℕ) → Writable m row (length before) → writeInto m row before ≡ front m row before
+unfolding writeInto
+write-into m row before w = rw (write-accepts m row (length before) w) refl
+
+written-read : (m : ℕ) (row before out : List ℕ) (bytes bits : ℕ) → write m row (length before) ≡ accepted (bytes, bits) → length row ≤ length out
+    → let s = take bytes (writeInto m row before) in
+    (read m s (length out) ≡ accepted (length row)) × (readInto m s out ≡ row ++ drop (length row) out)
+written-read m row before out bytes bits e l =
+    let i = write-is m row (length before) bytes bits e in
+    let w = i .0 in
+    let s : take bytes (writeInto m row before) ≡ encoding m row =
+    ap₂ take (i .1) (write-into m row before w) ∙ take-append-seam (encoding m row) _ in
+    let r = read-row m (encoding m row) out row (decode-encoding m row (w .order) (w .count) (w .legal)) l in
+    rw s (sym (r .0), sym (r .1))
+
+decoded-written : (m : ℕ) (s row before : List ℕ) → Bytes s → decode m s ≡ accepted row → length s ≤ length before
+    → (write m row (length before) ≡ accepted (length s, length (rowBits m row))) × (writeInto m row before ≡ s ++ drop (length s) before)
+decoded-written m s row before b e l =
+    let d = decode-is m s row e in
+    let same : s ≡ encoding m row = decoded-encoding m s row b e in
+    let w : Writable m row (length before) =
+    record { order = d .order; count = d .long; legal = d .legal; fits = omega (arith, ap length same) } in
+    rw same (write-accepts m row (length before) w, write-into m row before w)
+
+read-written : (m : ℕ) (s out before : List ℕ) (n : ℕ) → Bytes s → read m s (length out) ≡ accepted n → length s ≤ length before
+    → let row = take n (readInto m s out) in
+    (write m row (length before) ≡ accepted (length s, length (rowBits m row))) × (writeInto m row before ≡ s ++ drop (length s) before)
+read-written m s out before n b e l =
+    let i = read-is m s (length out) n e in
+    let back : take n (readInto m s out) ≡ i .0 =
+    ap₂ take (i .2) (sym (read-row m s out (i .0) (i .1) (i .3) .1)) ∙ take-append-seam (i .0) _ in
+    rw back (decoded-written m s (i .0) before b (i .1) l)
+
+appended-written : (m : ℕ) (row before : List ℕ) (bytes bits : ℕ) → write m row (length before) ≡ accepted (bytes, bits)
+    → appendAll m before 0 row ≡ (writeInto m row before, bytes)
+unfolding encoding pack bytesOf rowBits flatten
+appended-written m row before bytes bits e =
+    let i = write-is m row (length before) bytes bits e in
+    rw (write-into m row before (i .0), i .1) (append-all m [] row before (i .0))
+
+pub round-trip : (m : ℕ) → RoundTrip m
+round-trip m = record { written-read = written-read m; read-written = read-written m; appended-written = appended-written m }
+
+-- ## The largest totals
+
+-- as many of the largest number as a row can have
+abbrev pub largestRow : List ℕ
+largestRow = replicate longest largest
+
+legal-same : (k n : ℕ) → isNumber largest n ≡ true → Legal largest (replicate k n)
+legal-same zero n e = tt
+legal-same (suc k) n e = (e, legal-same k n e)
+
+sum-same : (k n : ℕ) → sum (replicate k n) ≡ k * n
+sum-same zero n = omega arith
+sum-same (suc k) n = omega (arith, sum-same k n, suc-mul k n)
+
+decode-largest : (m : ℕ) → Order m → decode m (encoding m largestRow) ≡ accepted largestRow
+decode-largest m o =
+    decode-encoding m largestRow o (omega (arith, length-replicate longest largest)) (legal-same longest largest (is-number largest largest (omega arith) (omega arith)))
+
+-- they are reached, and exact
+pub total-largest : (m : ℕ) → Order m → total m (encoding m largestRow) 0 longest ≡ accepted 17592186040320
+total-largest m o =
+    let l = length-replicate longest largest in
+    sym (total-sum m (encoding m largestRow) largestRow 0 longest (decode-largest m o) (omega arith) (omega arith))
+    ∙ ap accepted (ap sum (take-all longest largestRow (omega arith)) ∙ sum-same longest largest)
+
+pub repeated-largest : (m : ℕ) → Order m → repeatedTotal m (encoding m largestRow) 10000 ≡ accepted 175921860403200000
+repeated-largest m o =
+    let l = length-replicate longest largest in
+    sym (repeated-sum m (encoding m largestRow) largestRow 10000 (decode-largest m o) (omega arith) (omega arith))
+    ∙ ap (λ (x : ℕ). accepted (10000 * x)) (ap sum (take-all longest largestRow (omega arith)) ∙ sum-same longest largest)

@@ -1,0 +1,33 @@
+-- What writing, reading and appending promise of each other (demand 2), for every order and every input.
+use mathlib.Core.Path.{_≡_}
+use mathlib.Core.List.{List, [], _∷_, _++_}
+use Prim.Native.Nat.{ℕ, _≤_}
+use lib.ListN.{length, take, drop}
+use Rattle.bits.specs.Bits.{Bytes}
+use Rattle.fibonacci.specs.Encoding.{rowBits}
+use Rattle.fibonacci.specs.Calls.{Outcome, accepted, refused}
+use Rattle.decoder.specs.Reading.{read, readInto}
+use Rattle.encoder.specs.Writing.{write, writeInto, append, appendInto}
+
+-- The bytes in use after an append
+abbrev pub usedAfter : Outcome (ℕ × ℕ) → ℕ → ℕ
+usedAfter (accepted x) used = x .0
+usedAfter (refused number place) used = used
+
+-- A buffer and its bytes in use after the numbers of a list are appended one after the other
+abbrev pub appendAll : ℕ → List ℕ → ℕ → List ℕ → List ℕ × ℕ
+appendAll m buffer used [] = (buffer, used)
+appendAll m buffer used (n ∷ ns) = appendAll m (appendInto m buffer used n) (usedAfter (append m buffer used n) used) ns
+
+pub record RoundTrip (m : ℕ) : Type 0 where
+  -- What writing gives is read, and the row comes back
+  pub written-read : (row before out : List ℕ) (bytes bits : ℕ) → write m row (length before) ≡ accepted (bytes, bits) → length row ≤ length out
+      → let s = take bytes (writeInto m row before) in
+      (read m s (length out) ≡ accepted (length row)) × (readInto m s out ≡ row ++ drop (length row) out)
+  -- What is read is what writing its row gives: nothing else is accepted
+  pub read-written : (s out before : List ℕ) (count : ℕ) → Bytes s → read m s (length out) ≡ accepted count → length s ≤ length before
+      → let row = take count (readInto m s out) in
+      (write m row (length before) ≡ accepted (length s, length (rowBits m row))) × (writeInto m row before ≡ s ++ drop (length s) before)
+  -- Appending the numbers of a row one after the other, from an encoding of no bytes on, is writing the row
+  pub appended-written : (row before : List ℕ) (bytes bits : ℕ) → write m row (length before) ≡ accepted (bytes, bits)
+      → appendAll m before 0 row ≡ (writeInto m row before, bytes)
