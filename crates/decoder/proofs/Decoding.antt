@@ -16,7 +16,9 @@ use Rattle.fibonacci.specs.Calls.{Outcome, accepted, refused, andThen, isOrder,
 use Rattle.fibonacci.proofs.Checks.{order-is, is-order, number-is, check-passed, then-passed, not-both, accepted-one, refused-same}
 use Rattle.decoder.specs.declared.Refusal.{Refusal}
 use Rattle.decoder.specs.declared.Found.{Found}
-use Rattle.decoder.specs.Answers.{refusal, found, Stored}
+use Rattle.decoder.specs.declared.ScanAnswer.{ScanAnswer}
+use Rattle.decoder.specs.declared.ScanAnswer.the-variants.{Row, Refused}
+use Rattle.decoder.specs.Answers.{refusal, scanOutcome, found, Stored}
 use Rattle.decoder.proofs.Scanning.{finished-all, rest-good}
 use Rattle.decoder.specs.Demand.{ReturnsParse}
 use Rattle.decoder.specs.Reading.{checkFinished, contents, decode, read, readInto, total, repeatedTotal}
@@ -89,14 +91,15 @@ decode-accepts m s row d =
 abbrev pub foundIn : ℕ → ℕ → ℕ → List ℕ → Found
 foundIn m from to row = record { count = length row; bits = length (rowBits m row); total = sum (slice from to row) }
 
-pub scan-row : (m from to : ℕ) (d : Outcome (List ℕ)) (f : Found) → accepted f ≡ andThen d (found m from to)
+pub scan-row : (m from to : ℕ) (d : Outcome (List ℕ)) (f : Found) {r : ScanAnswer} → r ≡ Row f → scanOutcome r ≡ andThen d (found m from to)
     → (row : List ℕ) × (d ≡ accepted row) × (f ≡ foundIn m from to row)
-scan-row m from to (accepted row) f e = (row, refl, accepted-one e)
-scan-row m from to (refused n p) f e = absurd (not-both (sym e))
+scan-row m from to (accepted row) f t e = (row, refl, accepted-one (ap scanOutcome (sym t) ∙ e))
+scan-row m from to (refused n p) f t e = absurd (not-both (sym (ap scanOutcome (sym t) ∙ e)))
 
-pub scan-refused : (m from to : ℕ) (d : Outcome (List ℕ)) (r : Refusal) → refusal r ≡ andThen d (found m from to) → d ≡ refusal r
-scan-refused m from to (accepted row) r e = absurd (not-both e)
-scan-refused m from to (refused n p) r e = sym (refused-same e)
+pub scan-refused : (m from to : ℕ) (d : Outcome (List ℕ)) (x : Refusal) {r : ScanAnswer} → r ≡ Refused x → scanOutcome r ≡ andThen d (found m from to)
+    → d ≡ refusal x
+scan-refused m from to (accepted row) x t e = absurd (not-both (ap scanOutcome (sym t) ∙ e))
+scan-refused m from to (refused n p) x t e = sym (refused-same (ap scanOutcome (sym t) ∙ e))
 
 -- a list with room for the row holds it
 pub stored-row : (d : Outcome (List ℕ)) (before after row : List ℕ) → Stored d before after → d ≡ accepted row → length row ≤ length before

@@ -1,8 +1,8 @@
 // Reading an encoding of order 2 to 6, bit by bit, and totals of its numbers.
 ghost use mathlib.Core.Path.{_≡_};
+ghost use mathlib.Core.Bool.{_&&_};
 ghost use mathlib.Core.List.{_++_};
 ghost use Prim.Native.Nat.{_+_, _*_, _^_, _≤_, _<_};
-ghost use mathlib.Core.Bool.{_&&_};
 ghost use lib.Dec.{eqb, ltb};
 ghost use lib.ListN.{length, take, drop, set};
 ghost use Rattle.bits.specs.Bits.{unpack};
@@ -12,31 +12,39 @@ ghost use Rattle.fibonacci.specs.Calls.{andThen, largest};
 ghost use Rattle.decoder.specs.Reading.{contents, decode, read, readInto, total, repeatedTotal};
 ghost use Rattle.decoder.specs.Answers.{readOutcome, totalOutcome, repeatedOutcome, scanOutcome, found, Stored};
 
-// Why an encoding is not read.
+// Why an encoding is not read. The numbers are paper 01's.
 pub enum Refusal {
+    // 1: the order is not 2 to 6.
     Order,
+    // 2: there are more than 24,064 bytes.
     Bytes,
+    // 4: a 4,097th codeword ends.
     Count,
+    // 7: the number at this place is above 4,294,967,295.
     Number(usize),
+    // 6: the rest has 8 bits or more, or holds a one.
     Rest,
 }
 
-// The answer of reading: how many numbers the row has, or why there is none.
 pub enum ReadAnswer {
+    // How many numbers the row has.
     Row(usize),
     Refused(Refusal),
+    // 5: the output is shorter than the row.
     Room,
 }
 
 pub enum TotalAnswer {
     Sum(u64),
     Refused(Refusal),
+    // 8: the span is not one of the row's.
     Span,
 }
 
 pub enum RepeatedTotalAnswer {
     Sum(u64),
     Refused(Refusal),
+    // 14: the repeats are not 1 to 10,000.
     Repeats,
 }
 
@@ -52,7 +60,8 @@ pub enum ScanAnswer {
     Refused(Refusal),
 }
 
-// What `run` ones after `len` pending bits are worth once a zero follows them. It matters only while a number of that length can be legal; 0 after that.
+// What `run` ones after `len` pending bits are worth once a zero follows them, by the first numbers: no loop over them. It matters only as long as a number of
+// that length can be at most 4,294,967,295; past that the table has no first number, and the result is 0.
 fn ones_value(firsts: &[u32; 47], order: usize, len: usize, run: usize) -> u64
     requires { ⌜ Order order × (now firsts ≡ tableRow (first order)) × (len + run < 2 ^ 32) ⌝ }
     ensures { λ r. ⌜ (first order (len + run + 1) ≤ largest → r ≡ value order (len + 1) (ones run)) × (r ≤ largest) ⌝ }
@@ -104,7 +113,8 @@ fn is_padding(len: usize, val: u64, run: usize) -> bool
     len < 8 && (val == 0 && run == 0)
 }
 
-// The scan after the checks of order and length: the numbers go up to a limit, and the row is stored as far as there is room.
+// The scan after the checks of order and length, bit by bit. Pending are `len` bits, the last of them a zero, whose value is `val`, and then `run` ones. The
+// numbers go up to a limit, and the row is stored as far as there is room.
 fn walk(
     firsts: &[u32; 47],
     order: usize,
@@ -127,7 +137,7 @@ fn walk(
         if bits::bit(s, k) {
             run += 1;
             if run == order {
-                if count == 4096 {
+                if count == fibonacci::LONGEST {
                     return ScanAnswer::Refused(Refusal::Count);
                 }
                 let n = number(firsts, order, len, val);
@@ -157,18 +167,19 @@ fn walk(
     })
 }
 
-// The scan of an encoding, which every call that reads one makes: its checks, and what it finds. The row goes to the lent list, as far as that has room.
+// The scan of an encoding, which every call that reads one makes: its checks, and what it finds. The row goes to the lent list, as far as that has room; after
+// a refusal the list holds anything, so it is the caller's own.
 pub fn scan(order: usize, s: &[u8], from: usize, to: usize, row: &mut [u32]) -> ScanAnswer
     ensures { λ r. ⌜ (scanOutcome r ≡ andThen (decode order (now (s .entry))) (found order from to)) × Stored (decode order (now (s .entry))) (now (row .entry)) (now (row .exit)) ⌝ }
 {
     if !fibonacci::is_order(order) {
         return ScanAnswer::Refused(Refusal::Order);
     }
-    if s.len() > 24064 {
+    if s.len() > fibonacci::MOST_BYTES {
         return ScanAnswer::Refused(Refusal::Bytes);
     }
     let firsts = fibonacci::first_numbers(order);
-    walk(&firsts, order, s, 4294967295, from, to, row)
+    walk(&firsts, order, s, fibonacci::LARGEST, from, to, row)
 }
 
 // The first n elements of one list over those of another.
@@ -185,7 +196,7 @@ fn copy(to: &mut [u32], row: &[u32], n: usize)
 pub fn read(order: usize, s: &[u8], out: &mut [u32]) -> ReadAnswer
     ensures { λ r. ⌜ (readOutcome r ≡ read order (now (s .entry)) (length (now (out .entry)))) × (now (out .exit) ≡ readInto order (now (s .entry)) (now (out .entry))) ⌝ }
 {
-    let mut row: [u32; 4096] = [0; 4096];
+    let mut row: [u32; fibonacci::LONGEST] = [0; fibonacci::LONGEST];
     let scanned = scan(order, s, 0, 0, &mut row);
     match scanned {
         ScanAnswer::Row(f) => {
@@ -220,12 +231,12 @@ pub fn total(order: usize, s: &[u8], a: usize, b: usize) -> TotalAnswer
     }
 }
 
-// The total of the row repeated.
+// The total of the row, so many times.
 pub fn repeated_total(order: usize, s: &[u8], repeats: u64) -> RepeatedTotalAnswer
     ensures { λ r. ⌜ repeatedOutcome r ≡ repeatedTotal order (now (s .entry)) repeats ⌝ }
 {
     let mut row: [u32; 1] = [0];
-    let scanned = scan(order, s, 0, 4096, &mut row);
+    let scanned = scan(order, s, 0, fibonacci::LONGEST, &mut row);
     match scanned {
         ScanAnswer::Row(f) => {
             if repeats == 0 {

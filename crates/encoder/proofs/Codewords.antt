@@ -15,14 +15,10 @@ use Rattle.fibonacci.specs.Code.{F, ones, first, size, digits, codeword}
 use Rattle.fibonacci.specs.Calls.{largest}
 use Rattle.fibonacci.specs.Tables.{Order, bounded}
 use Rattle.fibonacci.proofs.Numeration.{digits-big, digits-small, digits-length, F-rises}
-use Rattle.fibonacci.proofs.Numbers.{first-rises, F-first, within-one, codeword-size}
+use Rattle.fibonacci.proofs.Numbers.{first-pos, F-first, within-one, codeword-size}
 use Rattle.fibonacci.proofs.Lookup.{first-within, bounded-is, bounded-not}
 
 -- ## The bits before the last ones
-
-first-pos : (m d : ℕ) → 1 ≤ first m d
-unfolding first
-first-pos m d = first-rises m {j = 0} {k = d} (omega arith)
 
 -- the next first number is above n, or too large to be looked up: the search ends
 pub stem-end : (m n d x : ℕ) → 1 ≤ m → 1 ≤ n → n ≤ largest → first m d ≤ n → x ≡ bounded (first m (d + 1)) → (x ≡ 0) ⊎ (n < x) → d ≡ size m n n 0

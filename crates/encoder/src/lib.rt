@@ -10,24 +10,33 @@ ghost use Rattle.fibonacci.specs.Calls.{accepted, Legal, largest, longest, most
 ghost use Rattle.encoder.specs.Writing.{write, writeInto, append, appendInto};
 ghost use Rattle.encoder.specs.Answers.{writeOutcome, appendOutcome, measuredOutcome};
 
-// The answer of writing: the bytes and bits of the encoding, or why there is none.
+// The refusals' numbers are paper 01's.
 pub enum WriteAnswer {
     Written { bytes: usize, bits: usize },
+    // 1: the order is not 2 to 6.
     Order,
+    // 4: there are more than 4,096 numbers.
     Count,
+    // 3: the number at this place is 0.
     Number(usize),
+    // 5: the output is shorter than the encoding.
     Room,
 }
 
-// The answer of appending: the bytes now in use and the numbers in them, or why there are no more.
 pub enum AppendAnswer {
+    // The bytes now in use, and how many numbers they hold.
     Appended { bytes: usize, count: usize },
+    // 1, 2, 4, 7, 6: the encoding in the buffer is not read; also 2 where its bytes pass the buffer.
     Refused(decoder::Refusal),
+    // 3: the number is 0.
     Number,
+    // 4: the row has 4,096 numbers already.
     Full,
+    // 5: the longer encoding passes the buffer.
     Room,
 }
 
+// What measuring a row finds: how many bits its codewords have, or the place of the first number at fault.
 enum Measured {
     Bits(usize),
     Fault(usize),
@@ -126,11 +135,11 @@ pub fn write(order: usize, row: &[u32], out: &mut [u8]) -> WriteAnswer
     if !fibonacci::is_order(order) {
         return WriteAnswer::Order;
     }
-    if row.len() > 4096 {
+    if row.len() > fibonacci::LONGEST {
         return WriteAnswer::Count;
     }
     let firsts = fibonacci::first_numbers(order);
-    let measured = measure(&firsts, order, row, 4294967295);
+    let measured = measure(&firsts, order, row, fibonacci::LARGEST);
     match measured {
         Measured::Fault(place) => WriteAnswer::Number(place),
         Measured::Bits(bits) => {
@@ -169,7 +178,7 @@ pub fn append(order: usize, buf: &mut [u8], used: usize, n: u32) -> AppendAnswer
     if !fibonacci::is_order(order) {
         return AppendAnswer::Refused(decoder::Refusal::Order);
     }
-    if used > 24064 {
+    if used > fibonacci::MOST_BYTES {
         return AppendAnswer::Refused(decoder::Refusal::Bytes);
     }
     if used > buf.len() {
@@ -180,10 +189,10 @@ pub fn append(order: usize, buf: &mut [u8], used: usize, n: u32) -> AppendAnswer
     match scanned {
         decoder::ScanAnswer::Refused(r) => AppendAnswer::Refused(r),
         decoder::ScanAnswer::Row(f) => {
-            if !fibonacci::is_number(fibonacci::wide(n), 4294967295) {
+            if !fibonacci::is_number(fibonacci::wide(n), fibonacci::LARGEST) {
                 return AppendAnswer::Number;
             }
-            if f.count == 4096 {
+            if f.count == fibonacci::LONGEST {
                 return AppendAnswer::Full;
             }
             let bytes = extend(order, buf, f.bits, fibonacci::wide(n));

@@ -10,6 +10,13 @@ mod tables;
 use tables::FIRST_NUMBERS;
 use tables::POSITIONS;
 
+// The limits of paper 01: the largest number of a row, how many numbers a row has at most, and how many bytes their encoding has at most.
+pub const LARGEST: u64 = 4294967295;
+
+pub const LONGEST: usize = 4096;
+
+pub const MOST_BYTES: usize = 24064;
+
 // The check of an order, which every operation makes first.
 pub fn is_order(order: usize) -> bool
     ensures { λ r. ⌜ r ≡ isOrder order ⌝ }

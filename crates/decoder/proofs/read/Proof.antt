@@ -1,4 +1,4 @@
-use mathlib.Core.Path.{_≡_, sym, ap, _∙_}
+use mathlib.Core.Path.{_≡_, ap, _∙_}
 use mathlib.Core.List.{List, _++_}
 use Prim.Native.Nat.{ℕ, _≤_}
 use native.Mathlib.Omega.{arith}
@@ -6,7 +6,7 @@ use lib.ListN.{length, take, drop, replicate}
 use Rattle.fibonacci.specs.Calls.{accepted}
 use Rattle.decoder.specs.declared.Found.{Found}
 use Rattle.decoder.specs.Reading.{decode}
-use Rattle.decoder.specs.Answers.{refusal, scanOutcome}
+use Rattle.decoder.specs.Answers.{refusal}
 use Rattle.decoder.proofs.Decoding.{foundIn, decode-is, stored-row, scan-row, scan-refused, read-row, read-room, read-refused}
 use borrow.Author.Needs.{needs}
 use Rattle.decoder.proofs.read.Statement.{statement}
@@ -18,7 +18,7 @@ row-of : (c : tie.After-scanned)
     (row : List ℕ) × (decode (a .order) (a .s .now) ≡ accepted row) × (c .scanned .given .0 .0 ≡ foundIn (a .order) 0 0 row)
 row-of c =
     let a = c .before .before .before .before .before .before .before .args in
-    scan-row (a .order) 0 0 _ _ (ap scanOutcome (sym (c .scanned .given .1)) ∙ c .before .before .before .scan .ensures .0)
+    scan-row (a .order) 0 0 _ _ (c .scanned .given .1) (c .before .before .before .scan .ensures .0)
 
 -- the list that was lent to it holds that row
 held : (c : tie.After-scanned) → (take (length (row-of c .0)) (c .before .before .before .scan .last .1 .1 .1 .1 .0) ≡ row-of c .0) × (length (c .before .before .before .scan .last .1 .1 .1 .1 .0) ≡ 4096)
@@ -30,7 +30,7 @@ held c =
 reason-of : (c : tie.After-scanned2) → let a = c .before .before .before .before .before .before .before .args in decode (a .order) (a .s .now) ≡ refusal (c .scanned2 .given .0 .0)
 reason-of c =
     let a = c .before .before .before .before .before .before .before .args in
-    scan-refused (a .order) 0 0 _ (c .scanned2 .given .0 .0) (ap scanOutcome (sym (c .scanned2 .given .1)) ∙ c .before .before .before .scan .ensures .0)
+    scan-refused (a .order) 0 0 _ (c .scanned2 .given .0 .0) (c .scanned2 .given .1) (c .before .before .before .scan .ensures .0)
 
 slice-aggregate-scan : tie.Need-slice-aggregate-scan
 slice-aggregate-scan c = search needs

@@ -1,4 +1,4 @@
-use mathlib.Core.Path.{_≡_, sym, ap, _∙_}
+use mathlib.Core.Path.{_≡_, ap, _∙_}
 use mathlib.Core.List.{List}
 use Prim.Native.Nat.{ℕ, _*_, _≤_}
 use native.Mathlib.Omega.{arith}
@@ -6,7 +6,7 @@ use native.Mathlib.Nat.{mul-le-mul}
 use Rattle.fibonacci.specs.Calls.{accepted, longest}
 use Rattle.decoder.specs.declared.Found.{Found}
 use Rattle.decoder.specs.Reading.{decode}
-use Rattle.decoder.specs.Answers.{refusal, scanOutcome}
+use Rattle.decoder.specs.Answers.{refusal}
 use Rattle.decoder.proofs.Decoding.{foundIn, scan-row, scan-refused, repeated-fits, repeated-sum, repeated-none, repeated-more, repeated-refused}
 use borrow.Author.Needs.{needs}
 use Rattle.decoder.proofs.repeated_total.Statement.{statement}
@@ -18,13 +18,13 @@ row-of : (c : tie.After-scanned)
     (row : List ℕ) × (decode (a .order) (a .s .now) ≡ accepted row) × (c .scanned .given .0 .0 ≡ foundIn (a .order) 0 longest row)
 row-of c =
     let a = c .before .before .before .before .before .before .args in
-    scan-row (a .order) 0 longest _ _ (ap scanOutcome (sym (c .scanned .given .1)) ∙ c .before .before .before .scan .ensures .0)
+    scan-row (a .order) 0 longest _ _ (c .scanned .given .1) (c .before .before .before .scan .ensures .0)
 
 -- why the scan refused
 reason-of : (c : tie.After-scanned2) → let a = c .before .before .before .before .before .before .args in decode (a .order) (a .s .now) ≡ refusal (c .scanned2 .given .0 .0)
 reason-of c =
     let a = c .before .before .before .before .before .before .args in
-    scan-refused (a .order) 0 longest _ (c .scanned2 .given .0 .0) (ap scanOutcome (sym (c .scanned2 .given .1)) ∙ c .before .before .before .scan .ensures .0)
+    scan-refused (a .order) 0 longest _ (c .scanned2 .given .0 .0) (c .scanned2 .given .1) (c .before .before .before .scan .ensures .0)
 
 slice-aggregate-scan : tie.Need-slice-aggregate-scan
 slice-aggregate-scan c = search needs

@@ -11,7 +11,7 @@ use Rattle.fibonacci.specs.Calls.{accepted, isOrder, isNumber, largest}
 use Rattle.fibonacci.proofs.Checks.{order-is, number-is}
 use Rattle.decoder.specs.declared.Found.{Found}
 use Rattle.decoder.specs.Reading.{decode}
-use Rattle.decoder.specs.Answers.{refusal, scanOutcome}
+use Rattle.decoder.specs.Answers.{refusal}
 use Rattle.decoder.proofs.Decoding.{foundIn, scan-row, scan-refused, decode-is}
 use Rattle.encoder.proofs.Appending.{append-order, append-long, append-past, Given, append-unread, append-number, append-full, append-bits, append-none, append-some}
 use borrow.Author.Needs.{needs}
@@ -32,7 +32,7 @@ row-of : (c : tie.After-scanned2)
 row-of c =
     let a = c .before .before .before .before .before .before .before .before .before .before .before .before .args in
     subst (λ (k : ℕ). (row : List ℕ) × (decode (a .order) (take k (a .buf .now)) ≡ accepted row) × (c .scanned2 .given .0 .0 ≡ foundIn (a .order) 0 0 row)) (sub-zero (a .used))
-    (scan-row (a .order) 0 0 _ _ (ap scanOutcome (sym (c .scanned2 .given .1)) ∙ c .before .before .before .scan .ensures .0))
+    (scan-row (a .order) 0 0 _ _ (c .scanned2 .given .1) (c .before .before .before .scan .ensures .0))
 
 -- why the scan refused
 reason-of : (c : tie.After-scanned)
@@ -40,7 +40,7 @@ reason-of : (c : tie.After-scanned)
 reason-of c =
     let a = c .before .before .before .before .before .before .before .before .before .before .before .before .args in
     subst (λ (k : ℕ). decode (a .order) (take k (a .buf .now)) ≡ refusal (c .scanned .given .0 .0)) (sub-zero (a .used))
-    (scan-refused (a .order) 0 0 _ (c .scanned .given .0 .0) (ap scanOutcome (sym (c .scanned .given .1)) ∙ c .before .before .before .scan .ensures .0))
+    (scan-refused (a .order) 0 0 _ (c .scanned .given .0 .0) (c .scanned .given .1) (c .before .before .before .scan .ensures .0))
 
 -- the number is legal
 legal : (c : tie.Else4) → isNumber largest (c .before .before .before .before .before .before .before .before .before .before .before .before .before .before .before .before .args .n) ≡ true
