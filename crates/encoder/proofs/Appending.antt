@@ -16,10 +16,10 @@ use Rattle.bits.proofs.Put.{put-packed}
 use Rattle.fibonacci.specs.Code.{size, codeword}
 use Rattle.fibonacci.specs.Encoding.{rowBits, encoding, rest, parse, numbers}
 use Rattle.fibonacci.specs.Calls.{Outcome, accepted, refused, check, andThen, buffer, isOrder, isNumber, largest, longest, mostBytes}
-use Rattle.fibonacci.proofs.Checks.{number-is}
+use Rattle.fibonacci.proofs.Checks.{is-order, number-is, refused-same}
 use Rattle.fibonacci.proofs.Rows.{numbers-bits}
 use Rattle.decoder.specs.Reading.{decode}
-use Rattle.decoder.proofs.Decoding.{decode-is}
+use Rattle.decoder.proofs.Decoding.{decode-long, decode-is}
 use Rattle.encoder.specs.Writing.{append, appendInto}
 use Rattle.encoder.proofs.Codewords.{stem-long}
 use Rattle.encoder.proofs.Rows.{bits-snoc}
@@ -42,19 +42,40 @@ module _ (m : ℕ) (before : List ℕ) (used n : ℕ) where
   unfolding append
   append-order o = answer (refused 1 0) (rw o)
 
-  pub append-long : isOrder m ≡ true → mostBytes < used → Appends m before used n before (refused 2 0)
+  append-long : isOrder m ≡ true → mostBytes < used → append m before used n ≡ refused 2 0
   unfolding append
-  append-long o h = answer (refused 2 0) (rw (o, lt-ltb mostBytes used h))
+  append-long o h = rw (o, lt-ltb mostBytes used h)
 
-  pub append-past : isOrder m ≡ true → used ≤ mostBytes → length before < used → Appends m before used n before (refused 2 0)
+  pub append-past : isOrder m ≡ true → length before < used → Appends m before used n before (refused 2 0)
   unfolding append
-  append-past o l h = answer (refused 2 0) (rw (o, le-ltb mostBytes used l, lt-ltb (length before) used h))
+  append-past o h =
+      answer (refused 2 0) (elim (decLe used mostBytes) [
+        | yes l ↦ rw (o, le-ltb mostBytes used l, lt-ltb (length before) used h)
+        | no l ↦ append-long o (omega arith)
+      ])
 
--- order and bytes are passed
+  -- the encoding is refused; where it is too long, that is what its own bytes say
+  pub append-unread : isOrder m ≡ true → used ≤ length before → (k p : ℕ) → decode m (take used before) ≡ refused k p → Appends m before used n before (refused k p)
+  unfolding append
+  append-unread o i k p e =
+      answer (refused k p) (elim (decLe used mostBytes) [
+        | yes l ↦ rw (o, le-ltb mostBytes used l, le-ltb (length before) used i, e)
+        | no l ↦
+            append-long o (omega arith)
+            ∙ refused-same (sym (decode-long m (take used before) o (omega (arith, length-take-le used before i))) ∙ e)
+      ])
+
+-- the order and the bytes in use are passed
 pub record Given (m : ℕ) (before : List ℕ) (used : ℕ) : Type 0 where
   pub order : isOrder m ≡ true
   pub bytes : used ≤ mostBytes
   pub inside : used ≤ length before
+
+-- as they are where the encoding is read
+pub given-read : (m : ℕ) (before : List ℕ) (used : ℕ) (row : List ℕ) → used ≤ length before → decode m (take used before) ≡ accepted row → Given m before used
+given-read m before used row i e =
+    let d = decode-is m (take used before) row e in
+    record { order = is-order m (d .order); bytes = omega (arith, d .bytes, length-take-le used before i); inside = i }
 
 module _ (m : ℕ) (before : List ℕ) (used n : ℕ) (g : Given m before used) where
   -- so the encoding decides
@@ -65,9 +86,6 @@ module _ (m : ℕ) (before : List ℕ) (used n : ℕ) (g : Given m before used) 
       (accepted (length (encoding m (row ++ (n ∷ []))), suc (length row))))))
   unfolding append
   given = rw (g .order, le-ltb mostBytes used (g .bytes), le-ltb (length before) used (g .inside)) refl
-
-  pub append-unread : (k p : ℕ) → decode m (take used before) ≡ refused k p → Appends m before used n before (refused k p)
-  append-unread k p e = answer m before used n (refused k p) (given ∙ rw e refl)
 
   -- ## The checks of the number and of the room
 

