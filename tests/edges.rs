@@ -206,12 +206,13 @@ fn long(order: u64) {
     repeated_total("4096 largest numbers", order, s, 10_001);
     append_to("4096 largest numbers", order, s, 24_064, 1);
     append_to("4096 largest numbers", order, s, 24_064, 0);
-    write_into("4096 largest numbers", order, &[LARGEST; 4096], 24_063);
-    write_then_append("4095 largest numbers", order, &[LARGEST; 4095], 24_064, LARGEST);
-    write_then_append("4095 largest numbers", order, &[LARGEST; 4095], 24_063, LARGEST);
+    write_into("4096 largest numbers", order, &[LARGEST; 4096], n);
+    write_into("4096 largest numbers", order, &[LARGEST; 4096], n - 1);
+    write_then_append("4095 largest numbers", order, &[LARGEST; 4095], n, LARGEST);
+    write_then_append("4095 largest numbers", order, &[LARGEST; 4095], n - 1, LARGEST);
 }
 
-// ---- Bytes that are no encoding of a row, or just still are one ----
+// ---- Bytes that are no encoding of a row, and some that just are one ----
 
 fn examples() {
     write_into("P1", 2, &[], 1);
@@ -299,6 +300,7 @@ fn large_among_ones() {
     refuse("4096 ones and 4294967296", 2, &pack(&[ones(4096), next.clone()].concat()));
     let between = [pack(&[ones(4092), next].concat()), vec![0xFF, 0xFF]].concat();
     refuse("4092 ones, 4294967296 and FF FF", 2, &between);
+    refuse("4095 ones and 4294967296", 2, &pack(&[ones(4095), codeword(2, 4_294_967_296)].concat()));
 }
 
 fn one_too_many() {
@@ -351,6 +353,9 @@ fn refusals() {
     write_into(name, 2, &[5, 0], 3);
     write_into(name, 3, &[5, 0, 0], 3);
     write_into(name, 6, &[0, LARGEST], 3);
+    let mut last = [1; 4096];
+    last[4095] = 0;
+    write_into(name, 2, &last, 1024);
 }
 
 fn rooms() {

@@ -58,7 +58,7 @@ fn store(s: &mut [u8], w: u64, n: usize)
 }
 
 // The len low bits of word after the first o bits of the slice, then zeros to the end of the byte. The writer of codewords, which are 2 to 47 bits long,
-// calls it once it has seen that they fit.
+// calls it on the part of its buffer from the byte with the first free bit, once it has seen that they fit.
 pub fn put_word(s: &mut [u8], o: usize, word: u64, len: usize)
     requires { ⌜ (o < 8) × (1 ≤ len) × (len ≤ 56) × (word < 2 ^ len) × (o + len ≤ 8 * length (now s)) ⌝ }
     ensures { λ r. ⌜ unpack (now (s .exit)) ≡ putAt o (wordBits len word) (unpack (now (s .entry))) ⌝ }
@@ -70,15 +70,6 @@ pub fn put_word(s: &mut [u8], o: usize, word: u64, len: usize)
     let pad = 8 * count - n;
     let all = (kept << len | word) << pad;
     store(s, all, count);
-}
-
-// The same after any number of bits, through the part of the slice from the byte with the first free bit. Again the writer has seen that they fit.
-pub fn put_at(s: &mut [u8], at: usize, word: u64, len: usize)
-    requires { ⌜ (1 ≤ len) × (len ≤ 56) × (word < 2 ^ len) × (at + len ≤ 8 * length (now s)) ⌝ }
-    ensures { λ r. ⌜ unpack (now (s .exit)) ≡ putAt at (wordBits len word) (unpack (now (s .entry))) ⌝ }
-{
-    let k = at / 8;
-    put_word(&mut s[k..], at % 8, word, len);
 }
 
 // Eight bytes of the slice as a word, the first bit on top. (So written it is compiled to one load.) Whoever reads by words tests that eight

@@ -10,7 +10,7 @@ use lib.Seq.{sets, sets-eq, length-sets, slice, take-all, take-append-seam}
 use borrow.Author.Tests.{le-leb, lt-leb, lt-ltb, le-ltb, ltb-false, leb-false, not-false}
 use Rattle.bits.specs.Bits.{unpack, count}
 use Rattle.fibonacci.specs.Code.{sum}
-use Rattle.fibonacci.specs.Encoding.{rowBits, rest, parse, numbers}
+use Rattle.fibonacci.specs.Encoding.{rest, parse, numbers}
 use Rattle.fibonacci.specs.Tables.{Order}
 use Rattle.fibonacci.specs.Calls.{Outcome, accepted, refused, andThen, isOrder, isNumber, Legal, largest, longest, mostBytes}
 use Rattle.fibonacci.proofs.Checks.{order-is, is-order, number-is, check-passed, then-passed, not-both, accepted-one, refused-same}
@@ -88,15 +88,12 @@ decode-accepts m s row d =
 
 -- ## The answers, by what a scan found
 
-abbrev pub foundIn : ℕ → ℕ → ℕ → List ℕ → Found
-foundIn m from to row = record { count = length row; bits = length (rowBits m row); total = sum (slice from to row) }
-
-pub scan-row : (m from to : ℕ) (d : Outcome (List ℕ)) (f : Found) {r : ScanAnswer} → r ≡ Row f → scanOutcome r ≡ andThen d (found m from to)
-    → (row : List ℕ) × (d ≡ accepted row) × (f ≡ foundIn m from to row)
+pub scan-row : (m from to : ℕ) (d : Outcome (List ℕ)) (f : Found) {r : ScanAnswer} → r ≡ Row f → scanOutcome r ≡ andThen d (λ row. accepted (found m from to row))
+    → (row : List ℕ) × (d ≡ accepted row) × (f ≡ found m from to row)
 scan-row m from to (accepted row) f t e = (row, refl, accepted-one (ap scanOutcome (sym t) ∙ e))
 scan-row m from to (refused n p) f t e = absurd (not-both (sym (ap scanOutcome (sym t) ∙ e)))
 
-pub scan-refused : (m from to : ℕ) (d : Outcome (List ℕ)) (x : Refusal) {r : ScanAnswer} → r ≡ Refused x → scanOutcome r ≡ andThen d (found m from to)
+pub scan-refused : (m from to : ℕ) (d : Outcome (List ℕ)) (x : Refusal) {r : ScanAnswer} → r ≡ Refused x → scanOutcome r ≡ andThen d (λ row. accepted (found m from to row))
     → d ≡ refusal x
 scan-refused m from to (accepted row) x t e = absurd (not-both (ap scanOutcome (sym t) ∙ e))
 scan-refused m from to (refused n p) x t e = sym (refused-same (ap scanOutcome (sym t) ∙ e))

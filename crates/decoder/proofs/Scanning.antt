@@ -12,7 +12,6 @@ use lib.Dec.{leb, ltb, eqb}
 use lib.ListN.{length, getD, take, drop, set, length-append, length-take, length-replicate, drop-of-length-le, length-map}
 use lib.Seq.{drop-cons, sets, length-sets, slice, take-nil, drop-nil, take-all, take-append-le, drop-append-le}
 use borrow.Author.Tests.{le-leb, lt-leb, lt-ltb, eq-eqb, ltb-true, eqb-true}
-use Rattle.bits.specs.Bits as Bits
 use Rattle.bits.specs.Bits.{count}
 use Rattle.fibonacci.specs.Code.{sum, ones, value, first, number}
 use Rattle.fibonacci.specs.Encoding.{All, rowBits, Parse, parsed, codewords, rest, push, prepend, parseAfter, parse, numbers}
@@ -26,7 +25,7 @@ use Rattle.fibonacci.proofs.Numeration.{F-pos}
 use Rattle.fibonacci.proofs.Rows.{numbers-bits}
 use Rattle.fibonacci.proofs.Numbers.{first-rises, value-append, number-of}
 use Rattle.decoder.specs.Answers.{found}
-use Rattle.decoder.specs.Reading.{checkFinished, contents}
+use Rattle.decoder.specs.Reading.{checkFinished, checkRest, contents}
 
 -- ## Lists
 
@@ -258,11 +257,11 @@ check-same true = refl
 check-same false = refl
 
 pub rest-good : {A : Type 0} (r : List Bool) (next : Outcome A) → length r < 8 → count true r ≡ 0
-    → check 6 0 (leb 8 (length r)) (check 6 0 (leb 1 (count true r)) next) ≡ next
+    → checkRest r next ≡ next
 rest-good r next l c = simp (lt-leb 8 (length r) l, lt-leb 1 (count true r) (omega arith))
 
 rest-bad : {A : Type 0} (r : List Bool) (next : Outcome A) → (8 ≤ length r) ⊎ (1 ≤ count true r)
-    → check 6 0 (leb 8 (length r)) (check 6 0 (leb 1 (count true r)) next) ≡ refused 6 0
+    → checkRest r next ≡ refused 6 0
 rest-bad r next (inl l) = simp (le-leb 8 (length r) l)
 rest-bad r next (inr c) = rw (le-leb 1 (count true r) c) (check-same (leb 8 (length r)))
 
@@ -443,8 +442,7 @@ module _ {m limit from to : ℕ} {b : List Bool} {row₀ : List ℕ} {k : ℕ} {
     rest-is = reached-end m b k (w .words) (w .stem) run h (w .reached)
 
     -- the numbers have passed the checks, and the rest decides
-    end-checks : contents limit m b
-        ≡ check 6 0 (leb 8 (length (w .stem ++ ones run))) (check 6 0 (leb 1 (Bits.count true (w .stem ++ ones run))) (accepted (map (number m) (w .words))))
+    end-checks : contents limit m b ≡ checkRest (w .stem ++ ones run) (accepted (map (number m) (w .words)))
     unfolding contents numbers
     end-checks =
         let done : List ℕ = map (number m) (w .words) in
@@ -457,7 +455,7 @@ module _ {m limit from to : ℕ} {b : List Bool} {row₀ : List ℕ} {k : ℕ} {
 
     -- the bits before the padding are those of the row
     pub walked-found : (end : ℕ) → end ≡ length b → Padding len val run ≡ true
-        → accepted (record { count = count; bits = end - len; total = total }) ≡ found m from to (map (number m) (w .words))
+        → accepted (record { count = count; bits = end - len; total = total }) ≡ accepted (found m from to (map (number m) (w .words)))
     unfolding numbers
     walked-found end l e =
         let done : List ℕ = map (number m) (w .words) in

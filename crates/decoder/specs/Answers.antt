@@ -52,10 +52,10 @@ scanOutcome (scan.Row f) = accepted f
 scanOutcome (scan.Refused r) = refusal r
 
 -- What a scan tells of a row: how many numbers, how many bits, and the sum of those from one place up to but without another
-abbrev pub found : ℕ → ℕ → ℕ → List ℕ → Outcome Found
-found m from to row = accepted (record { count = length row; bits = length (rowBits m row); total = sum (slice from to row) })
+abbrev pub found : ℕ → ℕ → ℕ → List ℕ → Found
+found m from to row = record { count = length row; bits = length (rowBits m row); total = sum (slice from to row) }
 
--- A list after a scan that accepts: the row, stored from its start as far as there is room
+-- The list of a scan of one's own after it: where the scan accepts, the row from its start on, as far as there is room
 abbrev pub Stored : Outcome (List ℕ) → List ℕ → List ℕ → Type 0
 Stored (accepted row) before after = after ≡ sets before 0 row
 Stored (refused number place) before after = Unit {0}

@@ -18,13 +18,18 @@ checkFinished limit place (n ∷ ns) next =
     (check 7 place (not (isNumber limit n))
     (checkFinished limit (suc place) ns next))
 
--- What bits hold: their numbers, and 6 where the rest (paper 01: the remainder) has 8 bits or more or holds a one
+-- 6 the rest (paper 01: the remainder) has 8 bits or more or holds a one
+abbrev pub checkRest : {A : Type 0} → List Bool → Outcome A → Outcome A
+checkRest r next =
+    check 6 0 (leb 8 (length r))
+    (check 6 0 (leb 1 (count true r)) next)
+
+-- The numbers that bits hold: 4 and 7, then 6
 unfoldable pub contents : ℕ → ℕ → List Bool → Outcome (List ℕ)
 contents limit m b =
     checkFinished limit 0 (numbers m b)
-    (check 6 0 (leb 8 (length (rest (parse m b))))
-    (check 6 0 (leb 1 (count true (rest (parse m b))))
-    (accepted (numbers m b))))
+    (checkRest (rest (parse m b))
+    (accepted (numbers m b)))
 
 -- The row of an encoding, for every call that reads one: 1, 2, then 4 and 7, 6
 unfoldable pub decode : ℕ → List ℕ → Outcome (List ℕ)

@@ -8,7 +8,7 @@ ghost use lib.ListN.{length, take, drop, set};
 ghost use Rattle.bits.specs.Bits.{unpack};
 ghost use Rattle.fibonacci.specs.Code.{ones, value, first};
 ghost use Rattle.fibonacci.specs.Tables.{Order, tableRow};
-ghost use Rattle.fibonacci.specs.Calls.{andThen, largest};
+ghost use Rattle.fibonacci.specs.Calls.{accepted, andThen, largest};
 ghost use Rattle.decoder.specs.Reading.{contents, decode, read, readInto, total, repeatedTotal};
 ghost use Rattle.decoder.specs.Answers.{readOutcome, totalOutcome, repeatedOutcome, scanOutcome, found, Stored};
 
@@ -125,7 +125,7 @@ fn walk(
     row: &mut [u32],
 ) -> ScanAnswer
     requires { ⌜ Order order × (now firsts ≡ tableRow (first order)) × (length (now s) < 2 ^ 28) × (limit ≤ largest) ⌝ }
-    ensures { λ r. ⌜ (scanOutcome r ≡ andThen (contents limit order (unpack (now (s .entry)))) (found order from to)) × Stored (contents limit order (unpack (now (s .entry)))) (now (row .entry)) (now (row .exit)) ⌝ }
+    ensures { λ r. ⌜ (scanOutcome r ≡ andThen (contents limit order (unpack (now (s .entry)))) (λ row. accepted (found order from to row))) × Stored (contents limit order (unpack (now (s .entry)))) (now (row .entry)) (now (row .exit)) ⌝ }
 {
     let end = 8 * s.len();
     let mut count: usize = 0;
@@ -167,10 +167,9 @@ fn walk(
     })
 }
 
-// The scan of an encoding, which every call that reads one makes: its checks, and what it finds. The row goes to the lent list, as far as that has room; after
-// a refusal the list holds anything, so it is the caller's own.
-pub fn scan(order: usize, s: &[u8], from: usize, to: usize, row: &mut [u32]) -> ScanAnswer
-    ensures { λ r. ⌜ (scanOutcome r ≡ andThen (decode order (now (s .entry))) (found order from to)) × Stored (decode order (now (s .entry))) (now (row .entry)) (now (row .exit)) ⌝ }
+// The scan of an encoding: its checks, and what it finds. The row goes to a list of the caller's own.
+fn scan_into(order: usize, s: &[u8], from: usize, to: usize, row: &mut [u32]) -> ScanAnswer
+    ensures { λ r. ⌜ (scanOutcome r ≡ andThen (decode order (now (s .entry))) (λ row. accepted (found order from to row))) × Stored (decode order (now (s .entry))) (now (row .entry)) (now (row .exit)) ⌝ }
 {
     if !fibonacci::is_order(order) {
         return ScanAnswer::Refused(Refusal::Order);
@@ -180,6 +179,14 @@ pub fn scan(order: usize, s: &[u8], from: usize, to: usize, row: &mut [u32]) -> 
     }
     let firsts = fibonacci::first_numbers(order);
     walk(&firsts, order, s, fibonacci::LARGEST, from, to, row)
+}
+
+// The scan for the calls that want no row: reading's checks, the count, the bits, and the sum of the numbers from one place up to but without another.
+pub fn scan(order: usize, s: &[u8], from: usize, to: usize) -> ScanAnswer
+    ensures { λ r. ⌜ scanOutcome r ≡ andThen (decode order (now (s .entry))) (λ row. accepted (found order from to row)) ⌝ }
+{
+    let mut row: [u32; 1] = [0];
+    scan_into(order, s, from, to, &mut row)
 }
 
 // The first n elements of one list over those of another.
@@ -197,7 +204,7 @@ pub fn read(order: usize, s: &[u8], out: &mut [u32]) -> ReadAnswer
     ensures { λ r. ⌜ (readOutcome r ≡ read order (now (s .entry)) (length (now (out .entry)))) × (now (out .exit) ≡ readInto order (now (s .entry)) (now (out .entry))) ⌝ }
 {
     let mut row: [u32; fibonacci::LONGEST] = [0; fibonacci::LONGEST];
-    let scanned = scan(order, s, 0, 0, &mut row);
+    let scanned = scan_into(order, s, 0, 0, &mut row);
     match scanned {
         ScanAnswer::Row(f) => {
             let count = f.count;
@@ -215,8 +222,7 @@ pub fn read(order: usize, s: &[u8], out: &mut [u32]) -> ReadAnswer
 pub fn total(order: usize, s: &[u8], a: usize, b: usize) -> TotalAnswer
     ensures { λ r. ⌜ totalOutcome r ≡ total order (now (s .entry)) a b ⌝ }
 {
-    let mut row: [u32; 1] = [0];
-    let scanned = scan(order, s, a, b, &mut row);
+    let scanned = scan(order, s, a, b);
     match scanned {
         ScanAnswer::Row(f) => {
             if a > b {
@@ -235,8 +241,7 @@ pub fn total(order: usize, s: &[u8], a: usize, b: usize) -> TotalAnswer
 pub fn repeated_total(order: usize, s: &[u8], repeats: u64) -> RepeatedTotalAnswer
     ensures { λ r. ⌜ repeatedOutcome r ≡ repeatedTotal order (now (s .entry)) repeats ⌝ }
 {
-    let mut row: [u32; 1] = [0];
-    let scanned = scan(order, s, 0, fibonacci::LONGEST, &mut row);
+    let scanned = scan(order, s, 0, fibonacci::LONGEST);
     match scanned {
         ScanAnswer::Row(f) => {
             if repeats == 0 {

@@ -1,4 +1,4 @@
-// Bytes that are no encoding of a row, or just still are one, and what every call that reads them says.
+// Bytes that are no encoding of a row, some that just are one, and what every call that reads them says.
 use crate::calls::append_to;
 use crate::calls::append_used;
 use crate::calls::read_into;
@@ -65,7 +65,7 @@ pub fn short_rests() {
     refuse(name, 4, &[0x00, 0x01]);
 }
 
-// Codewords that do not end, and such that end too late to be a number.
+// Codewords that do not end, and codewords that end too late for a legal number.
 pub fn unfinished() {
     let name: &[u8] = b"zeros";
     refuse(name, 2, &[0; 9]);
@@ -131,7 +131,7 @@ pub fn large_last() {
     refuse(b"4096 ones and 4294967296", 2, &s);
 }
 
-// A number too large at place 4,092, and bytes after it whose bits begin with its padding.
+// A number too large at place 4,092, with bytes after it; the bit that is its padding begins what follows.
 pub fn large_between() {
     let mut s = [0xFFu8; 1031];
     s[1023] = 0xA4;
@@ -141,6 +141,19 @@ pub fn large_between() {
     s[1027] = 0xA1;
     s[1028] = 0x16;
     refuse(b"4092 ones, 4294967296 and FF FF", 2, &s);
+}
+
+// A number too large as the 4,096th: 7 still, as 4 is for the next.
+pub fn large_at_the_end() {
+    let mut s = [0xFFu8; 1030];
+    s[1023] = 0xFE;
+    s[1024] = 0x92;
+    s[1025] = 0x20;
+    s[1026] = 0x22;
+    s[1027] = 0x8A;
+    s[1028] = 0x84;
+    s[1029] = 0x58;
+    refuse(b"4095 ones and 4294967296", 2, &s);
 }
 
 // 4,097 ones, and a bad rest after them.

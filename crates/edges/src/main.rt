@@ -55,11 +55,11 @@ fn numbers_too_large() {
 }
 
 fn long_rows() {
-    rows::long(2);
-    rows::long(3);
-    rows::long(4);
-    rows::long(5);
-    rows::long(6);
+    rows::long(2, 24064);
+    rows::long(3, 19968);
+    rows::long(4, 19456);
+    rows::long(5, 19456);
+    rows::long(6, 19968);
 }
 
 fn encodings_of_every_order() {
@@ -91,6 +91,7 @@ fn encodings_of_order_2() {
     encodings::large_first();
     encodings::large_last();
     encodings::large_between();
+    encodings::large_at_the_end();
     encodings::one_too_many();
     encodings::totals();
     encodings::repeats();

@@ -129,14 +129,18 @@ fn long_in(order: usize, row: &[u32], out: &mut [u8]) {
     }
 }
 
-// 4,096 times the largest number, in the 24,064 bytes that order 2 needs, and in one byte less.
-pub fn long(order: usize) {
+// 4,096 times the largest number, in 24,064 bytes, in the `size` bytes that it needs, and in one byte less.
+pub fn long(order: usize, size: usize)
+    requires { ⌜ (0 < size) × (size ≤ 24064) ⌝ }
+{
     let row: &[u32] = &[4294967295; 4096];
     let mut out = [0xA5u8; 24064];
     long_in(order, row, &mut out);
-    write_into(b"4096 largest numbers", order, row, 24063);
+    let name: &[u8] = b"4096 largest numbers";
+    write_into(name, order, row, size);
+    write_into(name, order, row, size - 1);
     let name: &[u8] = b"4095 largest numbers";
     let row: &[u32] = &[4294967295; 4095];
-    write_then_append(name, order, row, 24064, 4294967295);
-    write_then_append(name, order, row, 24063, 4294967295);
+    write_then_append(name, order, row, size, 4294967295);
+    write_then_append(name, order, row, size - 1, 4294967295);
 }

@@ -15,6 +15,9 @@ pub fn refusals() {
     write_into(name, 2, row, 3);
     write_into(name, 3, &[5, 0, 0], 3);
     write_into(name, 6, &[0, 4294967295], 3);
+    let mut last = [1u32; 4096];
+    last[4095] = 0;
+    write_into(name, 2, &last, 1024);
 }
 
 pub fn rooms() {

@@ -1,11 +1,10 @@
 -- What appending answers and leaves behind, check by check.
 use mathlib.Core.Path.{_≡_, refl, sym, ap, _∙_}
-use mathlib.Core.Bool.{Bool, true, false, not}
+use mathlib.Core.Bool.{Bool, true, false}
 use mathlib.Core.List.{List, [], _∷_, _++_}
 use Prim.Native.Nat.{ℕ, suc, _+_, _*_, _≤_, _<_}
 use native.Mathlib.Omega.{arith}
 use native.Mathlib.Decide.{decLe}
-use lib.Dec.{leb, ltb}
 use lib.ListN.{length, take, drop, length-append}
 use lib.Seq.{length-take-le, take-append-seam, take-take}
 use borrow.Author.Tests.{le-leb, lt-leb, lt-ltb, le-ltb}
@@ -15,11 +14,11 @@ use Rattle.bits.proofs.Packing.{pack-length}
 use Rattle.bits.proofs.Put.{put-packed}
 use Rattle.fibonacci.specs.Code.{size, codeword}
 use Rattle.fibonacci.specs.Encoding.{rowBits, encoding, rest, parse, numbers}
-use Rattle.fibonacci.specs.Calls.{Outcome, accepted, refused, check, andThen, buffer, isOrder, isNumber, largest, longest, mostBytes}
+use Rattle.fibonacci.specs.Calls.{Outcome, accepted, refused, buffer, isOrder, isNumber, largest, longest, mostBytes}
 use Rattle.fibonacci.proofs.Checks.{is-order, number-is, refused-same}
 use Rattle.fibonacci.proofs.Rows.{numbers-bits}
-use Rattle.decoder.specs.Reading.{decode}
-use Rattle.decoder.proofs.Decoding.{decode-long, decode-is}
+use Rattle.decoder.specs.Reading.{contents, decode}
+use Rattle.decoder.proofs.Decoding.{decode-long, decode-contents, decode-is}
 use Rattle.encoder.specs.Writing.{append, appendInto}
 use Rattle.encoder.proofs.Codewords.{stem-long}
 use Rattle.encoder.proofs.Rows.{bits-snoc}
@@ -27,6 +26,11 @@ use Rattle.encoder.proofs.Rows.{bits-snoc}
 -- the call answers so, and leaves the buffer as the list after
 abbrev pub Appends : ℕ → List ℕ → ℕ → ℕ → List ℕ → Outcome (ℕ × ℕ) → Type 0
 Appends m before used n after outcome = (outcome ≡ append m before used n) × (after ≡ appendInto m before used n)
+
+-- what reading makes of the bytes in use is their contents, past the checks of order and bytes
+read-contents : (m : ℕ) (before : List ℕ) (used : ℕ) → isOrder m ≡ true → used ≤ mostBytes → used ≤ length before
+    → decode m (take used before) ≡ contents largest m (unpack (take used before))
+read-contents m before used o l i = decode-contents m (take used before) o (omega (arith, length-take-le used before i))
 
 module _ (m : ℕ) (before : List ℕ) (used n : ℕ) where
   answer : (outcome : Outcome (ℕ × ℕ)) → append m before used n ≡ outcome
@@ -59,7 +63,7 @@ module _ (m : ℕ) (before : List ℕ) (used n : ℕ) where
   unfolding append
   append-unread o i k p e =
       answer (refused k p) (elim (decLe used mostBytes) [
-        | yes l ↦ rw (o, le-ltb mostBytes used l, le-ltb (length before) used i, e)
+        | yes l ↦ rw (o, le-ltb mostBytes used l, le-ltb (length before) used i, sym (read-contents m before used o l i) ∙ e)
         | no l ↦
             append-long o (omega arith)
             ∙ refused-same (sym (decode-long m (take used before) o (omega (arith, length-take-le used before i))) ∙ e)
@@ -77,24 +81,20 @@ given-read m before used row i e =
     let d = decode-is m (take used before) row e in
     record { order = is-order m (d .order); bytes = omega (arith, d .bytes, length-take-le used before i); inside = i }
 
+-- ## The checks of the number and of the room
+
 module _ (m : ℕ) (before : List ℕ) (used n : ℕ) (g : Given m before used) where
-  -- so the encoding decides
-  pub given : append m before used n ≡ andThen (decode m (take used before)) (λ row.
-      check 3 0 (not (isNumber largest n))
-      (check 4 0 (leb longest (length row))
-      (check 5 0 (ltb (length before) (length (encoding m (row ++ (n ∷ [])))))
-      (accepted (length (encoding m (row ++ (n ∷ []))), suc (length row))))))
-  unfolding append
-  given = rw (g .order, le-ltb mostBytes used (g .bytes), le-ltb (length before) used (g .inside)) refl
-
-  -- ## The checks of the number and of the room
-
   module _ (row : List ℕ) (e : decode m (take used before) ≡ accepted row) where
+    held : contents largest m (unpack (take used before)) ≡ accepted row
+    held = sym (read-contents m before used (g .order) (g .bytes) (g .inside)) ∙ e
+
     pub append-number : isNumber largest n ≡ false → Appends m before used n before (refused 3 0)
-    append-number f = answer m before used n (refused 3 0) (given ∙ rw (e, f) refl)
+    unfolding append
+    append-number f = answer m before used n (refused 3 0) (rw (g .order, le-ltb mostBytes used (g .bytes), le-ltb (length before) used (g .inside), held, f) refl)
 
     pub append-full : isNumber largest n ≡ true → length row ≡ longest → Appends m before used n before (refused 4 0)
-    append-full legal f = answer m before used n (refused 4 0) (given ∙ rw (e, legal, le-leb longest (length row) (omega arith)) refl)
+    unfolding append
+    append-full legal f = answer m before used n (refused 4 0) (rw (g .order, le-ltb mostBytes used (g .bytes), le-ltb (length before) used (g .inside), held, legal, le-leb longest (length row) (omega arith)) refl)
 
     -- the bytes of the longer row
     longer : length (encoding m (row ++ (n ∷ []))) ≡ byteCount (length (rowBits m row) + length (codeword m n))
@@ -127,17 +127,27 @@ module _ (m : ℕ) (before : List ℕ) (used n : ℕ) (g : Given m before used) 
 
     module _ (legal : isNumber largest n ≡ true) (less : length row < longest) where
       pub append-room : length before < byteCount (length (rowBits m row) + length (codeword m n)) → Appends m before used n before (refused 5 0)
+      unfolding append
       append-room h =
           answer m before used n (refused 5 0)
-          (given ∙ rw (e, legal, lt-leb longest (length row) less, longer, lt-ltb (length before) _ h) refl)
+          (rw (g .order, le-ltb mostBytes used (g .bytes), le-ltb (length before) used (g .inside), held, legal, lt-leb longest (length row) less, longer, lt-ltb (length before) _ h) refl)
+
+      fits : byteCount (length (rowBits m row) + length (codeword m n)) ≤ length before
+          → append m before used n ≡ accepted (byteCount (length (rowBits m row) + length (codeword m n)), suc (length row))
+      unfolding append
+      fits h = rw (g .order, le-ltb mostBytes used (g .bytes), le-ltb (length before) used (g .inside), held, legal, lt-leb longest (length row) less, longer, le-ltb (length before) _ h) refl
+
+      -- the same, by the bytes of the longer row
+      pub append-fits : length (encoding m (row ++ (n ∷ []))) ≤ length before
+          → append m before used n ≡ accepted (length (encoding m (row ++ (n ∷ []))), suc (length row))
+      append-fits h = fits (omega (arith, longer)) ∙ ap (λ (k : ℕ). accepted (k, suc (length row))) (sym longer)
 
       pub append-done : (after : List ℕ) → byteCount (length (rowBits m row) + length (codeword m n)) ≤ length before → Bytes before → Bytes after
           → unpack after ≡ putAt (length (rowBits m row)) (codeword m n) (unpack before)
           → Appends m before used n after (accepted (byteCount (length (rowBits m row) + length (codeword m n)), suc (length row)))
       unfolding encoding
       append-done after h bb ba p =
-          let a = answer m before used n (accepted (byteCount (length (rowBits m row) + length (codeword m n)), suc (length row)))
-          (given ∙ rw (e, legal, lt-leb longest (length row) less, longer, le-ltb (length before) _ h) refl) in
+          let a = answer m before used n (accepted (byteCount (length (rowBits m row) + length (codeword m n)), suc (length row))) (fits h) in
           let bits : take (length (rowBits m row)) (unpack before) ++ codeword m n ≡ rowBits m (row ++ (n ∷ [])) =
           ap (λ (l : List Bool). l ++ codeword m n) begin ∙ sym (bits-snoc m row n) in
           let same : after ≡ encoding m (row ++ (n ∷ [])) ++ drop (length (encoding m (row ++ (n ∷ [])))) before =
@@ -147,7 +157,7 @@ module _ (m : ℕ) (before : List ℕ) (used n : ℕ) (g : Given m before used) 
 
       -- both, by what was found out about the room: r bytes are then in use, or 0 where they pass the buffer
       module _ (after : List ℕ) (r bits k : ℕ) (eb : bits ≡ length (rowBits m row)) (ek : k ≡ n)
-          (fits : byteCount (bits + length (codeword m k)) ≤ length before
+          (inside : byteCount (bits + length (codeword m k)) ≤ length before
           → (r ≡ byteCount (bits + length (codeword m k))) × (unpack after ≡ putAt bits (codeword m k) (unpack before)))
           (bb : Bytes before) (ba : Bytes after) (passes : length before < byteCount (bits + length (codeword m k)) → (r ≡ 0) × (after ≡ before)) where
         need : ℕ
@@ -168,7 +178,7 @@ module _ (m : ℕ) (before : List ℕ) (used n : ℕ) (g : Given m before used) 
         unfolding need
         append-none z =
             elim (decLe need (length before)) [
-              | yes h ↦ absurd (omega (arith, fits h .0, need-some))
+              | yes h ↦ absurd (omega (arith, inside h .0, need-some))
               | no h ↦
                   let p = passes (omega arith) in
                   let a = append-room (omega (arith, need-is)) in (a .0, p .1 ∙ a .1)
@@ -179,7 +189,7 @@ module _ (m : ℕ) (before : List ℕ) (used n : ℕ) (g : Given m before used) 
         append-some z =
             elim (decLe need (length before)) [
               | yes h ↦
-                  let f = fits h in
+                  let f = inside h in
                   let a = append-done after (omega (arith, need-is)) bb ba (rw (eb, ek) at (f .1)) in
                   (ap (λ (x : ℕ). accepted (x, suc (length row))) (f .0 ∙ need-is) ∙ a .0, a .1)
               | no h ↦ absurd (z (passes (omega arith) .0))

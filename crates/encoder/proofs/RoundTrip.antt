@@ -1,62 +1,28 @@
 -- Writing, reading and appending agree.
 use mathlib.Core.Path.{_≡_, refl, sym, ap, ap₂, _∙_}
-use mathlib.Core.Bool.{Bool, true, false, not}
+use mathlib.Core.Bool.{Bool, true, false}
 use mathlib.Core.List.{List, [], _∷_, _++_, append-assoc, append-nil, flatten}
 use Prim.Native.Nat.{ℕ, zero, suc, _+_, _-_, _*_, _≤_}
 use native.Mathlib.Omega.{arith}
 use native.Mathlib.Nat.{suc-mul}
-use lib.Dec.{ltb}
 use lib.ListN.{length, take, drop, replicate, length-append, length-drop, length-replicate}
 use lib.Seq.{take-all, take-append-seam, drop-append-add, drop-drop}
-use borrow.Author.Tests.{lt-leb, le-ltb, ltb-false, not-false}
 use Rattle.bits.specs.Bits.{Bytes, unpack, bytesOf, pack, padding, count}
 use Rattle.bits.proofs.Bytes.{unpack-length}
 use Rattle.bits.proofs.Packing.{unpack-pack, padding-below, pack-length, pack-bytes, unpack-apart}
 use Rattle.fibonacci.specs.Code.{sum}
 use Rattle.fibonacci.specs.Encoding.{Positive, rowBits, encoding, rest, parse}
 use Rattle.fibonacci.specs.Tables.{Order}
-use Rattle.fibonacci.specs.Calls.{accepted, isOrder, isNumber, Legal, largest, longest}
-use Rattle.fibonacci.proofs.Checks.{order-is, is-order, number-is, is-number, check-passed, accepted-one, each-passed, each-accepted}
+use Rattle.fibonacci.specs.Calls.{accepted, isNumber, Legal, largest, longest}
+use Rattle.fibonacci.proofs.Checks.{is-order, number-is, is-number}
 use Rattle.fibonacci.proofs.Rows.{bits-append, numbers-bits, encoding-parse, encoding-read}
 use Rattle.decoder.specs.Reading.{decode, read, readInto, total, repeatedTotal}
 use Rattle.decoder.proofs.Decoding.{decode-is, decode-accepts, read-is, read-row, total-sum, repeated-sum}
 use Rattle.encoder.specs.Writing.{write, writeInto, append, appendInto}
 use Rattle.encoder.specs.RoundTrip.{RoundTrip, appendAll}
 use Rattle.encoder.proofs.Rows.{bits-few}
-use Rattle.encoder.proofs.Appending.{Given, given}
-
--- ## What is accepted
-
--- a row that writing accepts
-pub record Writable (m : ℕ) (row : List ℕ) (room : ℕ) : Type 0 where
-  pub order : Order m
-  pub count : length row ≤ longest
-  pub legal : Legal largest row
-  pub fits : length (encoding m row) ≤ room
-
-pub write-is : (m : ℕ) (row : List ℕ) (room bytes bits : ℕ) → write m row room ≡ accepted (bytes, bits)
-    → Writable m row room × (bytes ≡ length (encoding m row)) × (bits ≡ length (rowBits m row))
-unfolding write
-write-is m row room bytes bits e =
-    let p1 = check-passed 1 0 (not (isOrder m)) _ _ e in
-    let p4 = check-passed 4 0 (ltb longest (length row)) _ _ (p1 .1) in
-    let p3 = each-accepted 3 largest 0 row _ _ (p4 .1) in
-    let p5 = check-passed 5 0 (ltb room (length (encoding m row))) _ _ (p3 .1) in
-    let same : _≡_ {A = ℕ × ℕ} (length (encoding m row), length (rowBits m row)) (bytes, bits) = accepted-one (p5 .1) in (
-      record {
-        order = order-is m (not-false _ (p1 .0));
-        count = ltb-false longest (length row) (p4 .0);
-        legal = p3 .0;
-        fits = ltb-false room (length (encoding m row)) (p5 .0);
-      },
-      sym (ap (λ (x : ℕ × ℕ). x .0) same),
-      sym (ap (λ (x : ℕ × ℕ). x .1) same),
-    )
-
-pub write-accepts : (m : ℕ) (row : List ℕ) (room : ℕ) → Writable m row room → write m row room ≡ accepted (length (encoding m row), length (rowBits m row))
-unfolding write
-write-accepts m row room w =
-    rw (is-order m (w .order), le-ltb longest (length row) (w .count), each-passed 3 largest 0 row _ (w .legal), le-ltb room (length (encoding m row)) (w .fits)) refl
+use Rattle.encoder.proofs.Writing.{Writable, write-is, write-accepts}
+use Rattle.encoder.proofs.Appending.{Given, append-fits}
 
 -- ## Reading what was written
 
@@ -157,14 +123,8 @@ module _ (m : ℕ) (row before : List ℕ) (n : ℕ) (w : Writable m (row ++ (n 
 
   front-append : append m (front m row before) used n ≡ accepted (length (encoding m (row ++ (n ∷ []))), suc (length row))
   front-append =
-      given m (front m row before) used n front-given
-      ∙ rw (
-        front-decode,
-        legal-last row n (w .legal),
-        lt-leb longest (length row) (omega (arith, w .count, length-append row (n ∷ []))),
-        front-length,
-        le-ltb (length before) (length (encoding m (row ++ (n ∷ [])))) (w .fits),
-      ) refl
+      append-fits m (front m row before) used n front-given row front-decode (legal-last row n (w .legal)) (omega (arith, w .count, length-append row (n ∷ [])))
+      (omega (arith, front-length, w .fits))
 
   front-into : appendInto m (front m row before) used n ≡ front m (row ++ (n ∷ [])) before
   unfolding appendInto
@@ -178,8 +138,9 @@ module _ (m : ℕ) (row before : List ℕ) (n : ℕ) (w : Writable m (row ++ (n 
       rw (front-append, ← decode-is m (take used (front m row before)) row front-decode .is) (ap (λ (l : List ℕ). new ++ l) later)
 
 append-all : (m : ℕ) (row ns before : List ℕ) → Writable m (row ++ ns) (length before)
-    → appendAll m (front m row before) (length (encoding m row)) ns ≡ (front m (row ++ ns) before, length (encoding m (row ++ ns)))
-append-all m row [] before w = ap (λ (r : List ℕ). (front m r before, length (encoding m r))) (sym (append-nil row))
+    → appendAll m (front m row before) (length (encoding m row)) (length row) ns
+    ≡ accepted (front m (row ++ ns) before, length (encoding m (row ++ ns)), length (row ++ ns))
+append-all m row [] before w = ap (λ (r : List ℕ). accepted (front m r before, length (encoding m r), length r)) (sym (append-nil row))
 append-all m row (n ∷ ns) before w =
     let later : Writable m ((row ++ (n ∷ [])) ++ ns) (length before) = rw (append-assoc row (n ∷ []) ns) w in
     let next : Writable m (row ++ (n ∷ [])) (length before) =
@@ -189,8 +150,10 @@ append-all m row (n ∷ ns) before w =
       legal = legal-begin (row ++ (n ∷ [])) ns (later .legal);
       fits = omega (arith, later .fits, encoding-grows m (row ++ (n ∷ [])) ns);
     } in
-    rw (front-into m row before n next, front-append m row before n next)
-    (append-all m (row ++ (n ∷ [])) ns before later ∙ ap (λ (r : List ℕ). (front m r before, length (encoding m r))) (append-assoc row (n ∷ []) ns))
+    let count : suc (length row) ≡ length (row ++ (n ∷ [])) = omega (arith, length-append row (n ∷ [])) in
+    rw (front-into m row before n next, front-append m row before n next, count)
+    (append-all m (row ++ (n ∷ [])) ns before later
+    ∙ ap (λ (r : List ℕ). accepted (front m r before, length (encoding m r), length r)) (append-assoc row (n ∷ []) ns))
 
 -- ## All of it
 
@@ -228,7 +191,7 @@ read-written m s out before n b e l =
     rw back (decoded-written m s (i .0) before b (i .1) l)
 
 appended-written : (m : ℕ) (row before : List ℕ) (bytes bits : ℕ) → write m row (length before) ≡ accepted (bytes, bits)
-    → appendAll m before 0 row ≡ (writeInto m row before, bytes)
+    → appendAll m before 0 0 row ≡ accepted (writeInto m row before, bytes, length row)
 unfolding encoding pack bytesOf rowBits flatten
 appended-written m row before bytes bits e =
     let i = write-is m row (length before) bytes bits e in

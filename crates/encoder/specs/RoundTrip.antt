@@ -5,19 +5,16 @@ use Prim.Native.Nat.{ℕ, _≤_}
 use lib.ListN.{length, take, drop}
 use Rattle.bits.specs.Bits.{Bytes}
 use Rattle.fibonacci.specs.Encoding.{rowBits}
-use Rattle.fibonacci.specs.Calls.{Outcome, accepted, refused}
+use Rattle.fibonacci.specs.Calls.{Outcome, accepted, andThen}
 use Rattle.decoder.specs.Reading.{read, readInto}
 use Rattle.encoder.specs.Writing.{write, writeInto, append, appendInto}
 
--- The bytes in use after an append
-abbrev pub usedAfter : Outcome (ℕ × ℕ) → ℕ → ℕ
-usedAfter (accepted x) used = x .0
-usedAfter (refused number place) used = used
-
--- A buffer and its bytes in use after the numbers of a list are appended one after the other
-abbrev pub appendAll : ℕ → List ℕ → ℕ → List ℕ → List ℕ × ℕ
-appendAll m buffer used [] = (buffer, used)
-appendAll m buffer used (n ∷ ns) = appendAll m (appendInto m buffer used n) (usedAfter (append m buffer used n) used) ns
+-- The numbers of a list appended one after the other to a buffer with so many bytes in use and so many numbers in them: the buffer, its bytes in use and
+-- the count afterwards, or the first refusal
+abbrev pub appendAll : ℕ → List ℕ → ℕ → ℕ → List ℕ → Outcome (List ℕ × ℕ × ℕ)
+appendAll m buffer used count [] = accepted (buffer, used, count)
+appendAll m buffer used count (n ∷ ns) =
+    andThen (append m buffer used n) (λ x. appendAll m (appendInto m buffer used n) (x .0) (x .1) ns)
 
 pub record RoundTrip (m : ℕ) : Type 0 where
   -- What writing gives is read, and the row comes back
@@ -30,4 +27,4 @@ pub record RoundTrip (m : ℕ) : Type 0 where
       (write m row (length before) ≡ accepted (length s, length (rowBits m row))) × (writeInto m row before ≡ s ++ drop (length s) before)
   -- Appending the numbers of a row one after the other, from an encoding of no bytes on, is writing the row
   pub appended-written : (row before : List ℕ) (bytes bits : ℕ) → write m row (length before) ≡ accepted (bytes, bits)
-      → appendAll m before 0 row ≡ (writeInto m row before, bytes)
+      → appendAll m before 0 0 row ≡ accepted (writeInto m row before, bytes, length row)

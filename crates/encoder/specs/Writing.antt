@@ -7,7 +7,7 @@ use lib.ListN.{length, take}
 use Rattle.bits.specs.Bits.{unpack}
 use Rattle.fibonacci.specs.Encoding.{rowBits, encoding, numbers}
 use Rattle.fibonacci.specs.Calls.{Outcome, accepted, check, andThen, buffer, isOrder, isNumber, largest, longest, mostBytes, checkEach}
-use Rattle.decoder.specs.Reading.{decode}
+use Rattle.decoder.specs.Reading.{contents}
 
 -- Write: 1 order not 2 to 6; 4 more than 4,096 numbers; 3 a number is 0; 5 the output is shorter than the encoding; else its bytes and bits
 unfoldable pub write : ℕ → List ℕ → ℕ → Outcome (ℕ × ℕ)
@@ -29,7 +29,7 @@ append m before used n =
     check 1 0 (not (isOrder m))
     (check 2 0 (ltb mostBytes used)
     (check 2 0 (ltb (length before) used)
-    (andThen (decode m (take used before)) (λ row.
+    (andThen (contents largest m (unpack (take used before))) (λ row.
     check 3 0 (not (isNumber largest n))
     (check 4 0 (leb longest (length row))
     (check 5 0 (ltb (length before) (length (encoding m (row ++ (n ∷ [])))))

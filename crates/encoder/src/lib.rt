@@ -181,8 +181,7 @@ pub fn append(order: usize, buf: &mut [u8], used: usize, n: u32) -> AppendAnswer
     if used > buf.len() {
         return AppendAnswer::Refused(decoder::Refusal::Bytes);
     }
-    let mut row: [u32; 1] = [0];
-    let scanned = decoder::scan(order, &buf[0..used], 0, 0, &mut row);
+    let scanned = decoder::scan(order, &buf[0..used], 0, 0);
     match scanned {
         decoder::ScanAnswer::Refused(r) => AppendAnswer::Refused(r),
         decoder::ScanAnswer::Row(f) => {

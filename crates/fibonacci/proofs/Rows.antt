@@ -62,14 +62,6 @@ numbers-bits m b p =
     same [] a = refl
     same (w ∷ ws) a = ap₂ (λ (x : List Bool) (l : List (List Bool)). x ∷ l) (codeword-number m w p (a .0) .0) (same ws (a .1))
 
-pub numbers-positive : (m : ℕ) (b : List Bool) → 1 ≤ m → Positive (numbers m b)
-unfolding numbers
-numbers-positive m b p = each (codewords (parse m b)) (parse-is m b p .coded)
-  where
-    each : (ws : List (List Bool)) → All (Codeword m) ws → Positive (map (number m) ws)
-    each [] a = tt
-    each (w ∷ ws) a = (codeword-number m w p (a .0) .1, each ws (a .1))
-
 -- ## One row begins another
 
 pub bits-append : (m : ℕ) (a b : List ℕ) → rowBits m (a ++ b) ≡ rowBits m a ++ rowBits m b

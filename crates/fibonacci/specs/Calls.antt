@@ -14,6 +14,19 @@ pub data Outcome (A : Type 0) : Type 0 where
   accepted : A → Outcome A
   refused : ℕ → ℕ → Outcome A
 
+-- So a call's number, its place, and its results, which are those given for none after a refusal: zeros
+abbrev pub answerNumber : {A : Type 0} → Outcome A → ℕ
+answerNumber (accepted x) = 0
+answerNumber (refused number place) = number
+
+abbrev pub answerPlace : {A : Type 0} → Outcome A → ℕ
+answerPlace (accepted x) = 0
+answerPlace (refused number place) = place
+
+abbrev pub answerResults : {A : Type 0} → A → Outcome A → A
+answerResults none (accepted x) = x
+answerResults none (refused number place) = none
+
 -- A check refuses with its number and a place where it fails; else what comes after it decides
 abbrev pub check : {A : Type 0} → ℕ → ℕ → Bool → Outcome A → Outcome A
 check number place true next = refused number place
@@ -31,6 +44,7 @@ buffer (refused number place) written before = before
 
 -- ## Limits
 
+-- From one number up to another
 abbrev pub within : ℕ → ℕ → ℕ → Bool
 within low high x = leb low x && leb x high
 
@@ -42,6 +56,7 @@ isOrder m = within 2 6 m
 unfoldable pub isNumber : ℕ → ℕ → Bool
 isNumber limit n = within 1 limit n
 
+-- Each number of a row is one
 abbrev pub Legal : ℕ → List ℕ → Type 0
 Legal limit row = All (λ n. isNumber limit n ≡ true) row
 

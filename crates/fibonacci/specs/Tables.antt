@@ -6,7 +6,7 @@ use lib.Dec.{leb}
 use Rattle.fibonacci.specs.Calls.{largest}
 use Rattle.fibonacci.specs.Code.{valuesFrom}
 
--- The orders in use: 2, 3, 4, 5 and 6
+-- The orders in use: 2, 3, 4, 5 and 6 (`isOrder` decides it)
 abbrev pub Order : ℕ → Type 0
 Order m = (2 ≤ m) × (m ≤ 6)
 

@@ -6,8 +6,8 @@ use lib.ListN.{length, take, drop, replicate}
 use Rattle.fibonacci.specs.Calls.{accepted}
 use Rattle.decoder.specs.declared.Found.{Found}
 use Rattle.decoder.specs.Reading.{decode}
-use Rattle.decoder.specs.Answers.{refusal}
-use Rattle.decoder.proofs.Decoding.{foundIn, decode-is, stored-row, scan-row, scan-refused, read-row, read-room, read-refused}
+use Rattle.decoder.specs.Answers.{refusal, found}
+use Rattle.decoder.proofs.Decoding.{decode-is, stored-row, scan-row, scan-refused, read-row, read-room, read-refused}
 use borrow.Author.Needs.{needs}
 use Rattle.decoder.proofs.read.Statement.{statement}
 use Rattle.decoder.proofs.read.Tie as tie
@@ -15,28 +15,28 @@ use Rattle.decoder.proofs.read.Tie as tie
 -- the row that the scan found
 row-of : (c : tie.After-scanned)
     → let a = c .before .before .before .before .before .before .before .args in
-    (row : List ℕ) × (decode (a .order) (a .s .now) ≡ accepted row) × (c .scanned .given .0 .0 ≡ foundIn (a .order) 0 0 row)
+    (row : List ℕ) × (decode (a .order) (a .s .now) ≡ accepted row) × (c .scanned .given .0 .0 ≡ found (a .order) 0 0 row)
 row-of c =
     let a = c .before .before .before .before .before .before .before .args in
-    scan-row (a .order) 0 0 _ _ (c .scanned .given .1) (c .before .before .before .scan .ensures .0)
+    scan-row (a .order) 0 0 _ _ (c .scanned .given .1) (c .before .before .before .scan-into .ensures .0)
 
 -- the list that was lent to it holds that row
-held : (c : tie.After-scanned) → (take (length (row-of c .0)) (c .before .before .before .scan .last .1 .1 .1 .1 .0) ≡ row-of c .0) × (length (c .before .before .before .scan .last .1 .1 .1 .1 .0) ≡ 4096)
+held : (c : tie.After-scanned) → (take (length (row-of c .0)) (c .before .before .before .scan-into .last .1 .1 .1 .1 .0) ≡ row-of c .0) × (length (c .before .before .before .scan-into .last .1 .1 .1 .1 .0) ≡ 4096)
 held c =
     let r = row-of c in
-    stored-row _ (replicate 4096 0) _ (r .0) (c .before .before .before .scan .ensures .1) (r .1) (decode-is _ _ (r .0) (r .1) .long)
+    stored-row _ (replicate 4096 0) _ (r .0) (c .before .before .before .scan-into .ensures .1) (r .1) (decode-is _ _ (r .0) (r .1) .long)
 
 -- why the scan refused
 reason-of : (c : tie.After-scanned2) → let a = c .before .before .before .before .before .before .before .args in decode (a .order) (a .s .now) ≡ refusal (c .scanned2 .given .0 .0)
 reason-of c =
     let a = c .before .before .before .before .before .before .before .args in
-    scan-refused (a .order) 0 0 _ (c .scanned2 .given .0 .0) (c .scanned2 .given .1) (c .before .before .before .scan .ensures .0)
+    scan-refused (a .order) 0 0 _ (c .scanned2 .given .0 .0) (c .scanned2 .given .1) (c .before .before .before .scan-into .ensures .0)
 
-slice-aggregate-scan : tie.Need-slice-aggregate-scan
-slice-aggregate-scan c = search needs
+slice-aggregate-scan-into : tie.Need-slice-aggregate-scan-into
+slice-aggregate-scan-into c = search needs
 
-scan-requires : tie.Need-scan-requires
-scan-requires c κs = search needs
+scan-into-requires : tie.Need-scan-into-requires
+scan-into-requires c κs = search needs
 
 enum-known-scanned : tie.Need-enum-known-scanned
 enum-known-scanned c = search needs
@@ -71,7 +71,7 @@ returns-2 c =
     let fits : length (r .0) ≤ length (a .out .now) = omega arith in
     let read = read-row _ _ (a .out .now) (r .0) (r .1) fits in
     let same : c .before .before .copy .last .0 ≡ r .0 ++ drop (length (r .0)) (a .out .now) =
-    c .before .before .copy .ensures ∙ ap (λ (k : ℕ). take k (m .before .before .before .scan .last .1 .1 .1 .1 .0) ++ drop k (a .out .now)) n ∙ ap (λ (l : List ℕ). l ++ drop (length (r .0)) (a .out .now)) (held m .0) in
+    c .before .before .copy .ensures ∙ ap (λ (k : ℕ). take k (m .before .before .before .scan-into .last .1 .1 .1 .1 .0) ++ drop k (a .out .now)) n ∙ ap (λ (l : List ℕ). l ++ drop (length (r .0)) (a .out .now)) (held m .0) in
     (ap accepted n ∙ read .0, same ∙ read .1)
 
 returns-3 : tie.Need-returns-3
@@ -82,8 +82,8 @@ pub read-spec : {M : Type 1} → statement M
 read-spec =
     tie.close
     (tie.spec
-    slice-aggregate-scan
-    scan-requires
+    slice-aggregate-scan-into
+    scan-into-requires
     enum-known-scanned
     returns
     slice-aggregate-copy

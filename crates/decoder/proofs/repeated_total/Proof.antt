@@ -6,28 +6,25 @@ use native.Mathlib.Nat.{mul-le-mul}
 use Rattle.fibonacci.specs.Calls.{accepted, longest}
 use Rattle.decoder.specs.declared.Found.{Found}
 use Rattle.decoder.specs.Reading.{decode}
-use Rattle.decoder.specs.Answers.{refusal}
-use Rattle.decoder.proofs.Decoding.{foundIn, scan-row, scan-refused, repeated-fits, repeated-sum, repeated-none, repeated-more, repeated-refused}
+use Rattle.decoder.specs.Answers.{refusal, found}
+use Rattle.decoder.proofs.Decoding.{scan-row, scan-refused, repeated-fits, repeated-sum, repeated-none, repeated-more, repeated-refused}
 use borrow.Author.Needs.{needs}
 use Rattle.decoder.proofs.repeated_total.Statement.{statement}
 use Rattle.decoder.proofs.repeated_total.Tie as tie
 
 -- the row that the scan found
 row-of : (c : tie.After-scanned)
-    → let a = c .before .before .before .before .before .before .args in
-    (row : List ℕ) × (decode (a .order) (a .s .now) ≡ accepted row) × (c .scanned .given .0 .0 ≡ foundIn (a .order) 0 longest row)
+    → let a = c .before .before .before .before .args in
+    (row : List ℕ) × (decode (a .order) (a .s .now) ≡ accepted row) × (c .scanned .given .0 .0 ≡ found (a .order) 0 longest row)
 row-of c =
-    let a = c .before .before .before .before .before .before .args in
-    scan-row (a .order) 0 longest _ _ (c .scanned .given .1) (c .before .before .before .scan .ensures .0)
+    let a = c .before .before .before .before .args in
+    scan-row (a .order) 0 longest _ _ (c .scanned .given .1) (c .before .before .scan .ensures)
 
 -- why the scan refused
-reason-of : (c : tie.After-scanned2) → let a = c .before .before .before .before .before .before .args in decode (a .order) (a .s .now) ≡ refusal (c .scanned2 .given .0 .0)
+reason-of : (c : tie.After-scanned2) → let a = c .before .before .before .before .args in decode (a .order) (a .s .now) ≡ refusal (c .scanned2 .given .0 .0)
 reason-of c =
-    let a = c .before .before .before .before .before .before .args in
-    scan-refused (a .order) 0 longest _ (c .scanned2 .given .0 .0) (c .scanned2 .given .1) (c .before .before .before .scan .ensures .0)
-
-slice-aggregate-scan : tie.Need-slice-aggregate-scan
-slice-aggregate-scan c = search needs
+    let a = c .before .before .before .before .args in
+    scan-refused (a .order) 0 longest _ (c .scanned2 .given .0 .0) (c .scanned2 .given .1) (c .before .before .scan .ensures)
 
 scan-requires : tie.Need-scan-requires
 scan-requires c κs = search needs
@@ -45,10 +42,10 @@ returns-2 c =
     let r = row-of (c .before .before .before) in
     repeated-more _ _ (r .0) _ (r .1) (c .if2 .taken)
 
-mul-t12 : tie.Need-mul-t12
-mul-t12 c =
+mul-t9 : tie.Need-mul-t9
+mul-t9 c =
     let r = row-of (c .before .before .before .before) in
-    let a = c .before .before .before .before .before .before .before .before .before .before .args in
+    let a = c .before .before .before .before .before .before .before .before .args in
     omega (arith, mul-le-mul (c .before .if2 .left) (repeated-fits _ _ (r .0) 0 (r .1)), ap (λ (f : Found). a .repeats * f .total) (r .2))
 
 enum-known-scanned-2 : tie.Need-enum-known-scanned-2
@@ -57,7 +54,7 @@ enum-known-scanned-2 c = search needs
 returns-3 : tie.Need-returns-3
 returns-3 c =
     let r = row-of (c .before .before .before .before) in
-    let a = c .before .before .before .before .before .before .before .before .before .before .args in
+    let a = c .before .before .before .before .before .before .before .before .args in
     let some : 1 ≤ a .repeats = omega (arith, c .before .before .if1 .left) in
     ap (λ (f : Found). accepted (a .repeats * f .total)) (r .2) ∙ repeated-sum _ _ (r .0) _ (r .1) some (c .before .if2 .left)
 
@@ -69,12 +66,11 @@ pub repeated-total-spec : {M : Type 1} → statement M
 repeated-total-spec =
     tie.close
     (tie.spec
-    slice-aggregate-scan
     scan-requires
     enum-known-scanned
     returns
     returns-2
-    mul-t12
+    mul-t9
     enum-known-scanned-2
     returns-3
     returns-4)

@@ -5,28 +5,25 @@ use native.Mathlib.Omega.{arith}
 use Rattle.fibonacci.specs.Calls.{accepted}
 use Rattle.decoder.specs.declared.Found.{Found}
 use Rattle.decoder.specs.Reading.{decode}
-use Rattle.decoder.specs.Answers.{refusal}
-use Rattle.decoder.proofs.Decoding.{foundIn, scan-row, scan-refused, total-sum, total-turned, total-past, total-refused}
+use Rattle.decoder.specs.Answers.{refusal, found}
+use Rattle.decoder.proofs.Decoding.{scan-row, scan-refused, total-sum, total-turned, total-past, total-refused}
 use borrow.Author.Needs.{needs}
 use Rattle.decoder.proofs.total.Statement.{statement}
 use Rattle.decoder.proofs.total.Tie as tie
 
 -- the row that the scan found
 row-of : (c : tie.After-scanned)
-    → let a = c .before .before .before .before .before .before .args in
-    (row : List ℕ) × (decode (a .order) (a .s .now) ≡ accepted row) × (c .scanned .given .0 .0 ≡ foundIn (a .order) (a .a) (a .b) row)
+    → let a = c .before .before .before .before .args in
+    (row : List ℕ) × (decode (a .order) (a .s .now) ≡ accepted row) × (c .scanned .given .0 .0 ≡ found (a .order) (a .a) (a .b) row)
 row-of c =
-    let a = c .before .before .before .before .before .before .args in
-    scan-row (a .order) (a .a) (a .b) _ _ (c .scanned .given .1) (c .before .before .before .scan .ensures .0)
+    let a = c .before .before .before .before .args in
+    scan-row (a .order) (a .a) (a .b) _ _ (c .scanned .given .1) (c .before .before .scan .ensures)
 
 -- why the scan refused
-reason-of : (c : tie.After-scanned2) → let a = c .before .before .before .before .before .before .args in decode (a .order) (a .s .now) ≡ refusal (c .scanned2 .given .0 .0)
+reason-of : (c : tie.After-scanned2) → let a = c .before .before .before .before .args in decode (a .order) (a .s .now) ≡ refusal (c .scanned2 .given .0 .0)
 reason-of c =
-    let a = c .before .before .before .before .before .before .args in
-    scan-refused (a .order) (a .a) (a .b) _ (c .scanned2 .given .0 .0) (c .scanned2 .given .1) (c .before .before .before .scan .ensures .0)
-
-slice-aggregate-scan : tie.Need-slice-aggregate-scan
-slice-aggregate-scan c = search needs
+    let a = c .before .before .before .before .args in
+    scan-refused (a .order) (a .a) (a .b) _ (c .scanned2 .given .0 .0) (c .scanned2 .given .1) (c .before .before .scan .ensures)
 
 scan-requires : tie.Need-scan-requires
 scan-requires c κs = search needs
@@ -60,7 +57,6 @@ pub total-spec : {M : Type 1} → statement M
 total-spec =
     tie.close
     (tie.spec
-    slice-aggregate-scan
     scan-requires
     enum-known-scanned
     returns

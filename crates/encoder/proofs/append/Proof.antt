@@ -11,8 +11,8 @@ use Rattle.fibonacci.specs.Calls.{accepted, isOrder, isNumber, largest}
 use Rattle.fibonacci.proofs.Checks.{order-is, number-is}
 use Rattle.decoder.specs.declared.Found.{Found}
 use Rattle.decoder.specs.Reading.{decode}
-use Rattle.decoder.specs.Answers.{refusal}
-use Rattle.decoder.proofs.Decoding.{foundIn, scan-row, scan-refused, decode-is}
+use Rattle.decoder.specs.Answers.{refusal, found}
+use Rattle.decoder.proofs.Decoding.{scan-row, scan-refused, decode-is}
 use Rattle.encoder.proofs.Appending.{append-order, append-past, Given, given-read, append-unread, append-number, append-full, append-bits, append-none, append-some}
 use borrow.Author.Needs.{needs}
 use Rattle.encoder.proofs.append.Statement.{statement}
@@ -23,26 +23,26 @@ ordered c = sym (c .before .is-order .ensures) ∙ not-false _ (c .if1 .left)
 
 -- the row that the scan found
 row-of : (c : tie.After-scanned2)
-    → let a = c .before .before .before .before .before .before .before .before .before .before .before .args in
-    (row : List ℕ) × (decode (a .order) (take (a .used) (a .buf .now)) ≡ accepted row) × (c .scanned2 .given .0 .0 ≡ foundIn (a .order) 0 0 row)
+    → let a = c .before .before .before .before .before .before .before .before .before .args in
+    (row : List ℕ) × (decode (a .order) (take (a .used) (a .buf .now)) ≡ accepted row) × (c .scanned2 .given .0 .0 ≡ found (a .order) 0 0 row)
 row-of c =
-    let a = c .before .before .before .before .before .before .before .before .before .before .before .args in
-    subst (λ (k : ℕ). (row : List ℕ) × (decode (a .order) (take k (a .buf .now)) ≡ accepted row) × (c .scanned2 .given .0 .0 ≡ foundIn (a .order) 0 0 row)) (sub-zero (a .used))
-    (scan-row (a .order) 0 0 _ _ (c .scanned2 .given .1) (c .before .before .before .scan .ensures .0))
+    let a = c .before .before .before .before .before .before .before .before .before .args in
+    subst (λ (k : ℕ). (row : List ℕ) × (decode (a .order) (take k (a .buf .now)) ≡ accepted row) × (c .scanned2 .given .0 .0 ≡ found (a .order) 0 0 row)) (sub-zero (a .used))
+    (scan-row (a .order) 0 0 _ _ (c .scanned2 .given .1) (c .before .before .scan .ensures))
 
-given : (c : tie.After-scanned2) → let a = c .before .before .before .before .before .before .before .before .before .before .before .args in Given (a .order) (a .buf .now) (a .used)
-given c = let r = row-of c in given-read _ _ _ (r .0) (c .before .before .before .before .before .before .before .if2 .left) (r .1)
+given : (c : tie.After-scanned2) → let a = c .before .before .before .before .before .before .before .before .before .args in Given (a .order) (a .buf .now) (a .used)
+given c = let r = row-of c in given-read _ _ _ (r .0) (c .before .before .before .before .before .if2 .left) (r .1)
 
 -- why the scan refused
 reason-of : (c : tie.After-scanned)
-    → let a = c .before .before .before .before .before .before .before .before .before .before .before .args in decode (a .order) (take (a .used) (a .buf .now)) ≡ refusal (c .scanned .given .0 .0)
+    → let a = c .before .before .before .before .before .before .before .before .before .args in decode (a .order) (take (a .used) (a .buf .now)) ≡ refusal (c .scanned .given .0 .0)
 reason-of c =
-    let a = c .before .before .before .before .before .before .before .before .before .before .before .args in
+    let a = c .before .before .before .before .before .before .before .before .before .args in
     subst (λ (k : ℕ). decode (a .order) (take k (a .buf .now)) ≡ refusal (c .scanned .given .0 .0)) (sub-zero (a .used))
-    (scan-refused (a .order) 0 0 _ (c .scanned .given .0 .0) (c .scanned .given .1) (c .before .before .before .scan .ensures .0))
+    (scan-refused (a .order) 0 0 _ (c .scanned .given .0 .0) (c .scanned .given .1) (c .before .before .scan .ensures))
 
 -- the number is legal
-legal : (c : tie.Else3) → isNumber largest (c .before .before .before .before .before .before .before .before .before .before .before .before .before .before .before .args .n) ≡ true
+legal : (c : tie.Else3) → isNumber largest (c .before .before .before .before .before .before .before .before .before .before .before .before .before .args .n) ≡ true
 legal c = ap (isNumber largest) (sym (c .before .before .wide .ensures)) ∙ sym (c .before .is-number .ensures) ∙ not-false _ (c .if3 .left)
 
 -- the row is not full
@@ -73,9 +73,6 @@ part-scan-start c = search needs
 
 part-scan-end : tie.Need-part-scan-end
 part-scan-end c = search needs
-
-slice-aggregate-scan : tie.Need-slice-aggregate-scan
-slice-aggregate-scan c = search needs
 
 scan-requires : tie.Need-scan-requires
 scan-requires c κs = search needs
@@ -132,10 +129,10 @@ returns-5 c =
     let m = e .before .before .before .before .before .before in
     let r = row-of m in
     append-none _ _ _ _ (given m) (r .0) (r .1) (legal (e .before .before)) (less e .0) _ (x .extend .result) _ _ (ap (λ (f : Found). f .bits) (r .2)) (x .before .wide2 .ensures)
-    (x .extend .ensures .0) (λ i. m .before .before .before .before .before .before .before .before .before .before .slice-known .given i .fits) (λ i. c .before .slice-known2 .given i .fits) (x .extend .ensures .1) (c .if5 .taken)
+    (x .extend .ensures .0) (λ i. m .before .before .before .before .before .before .before .before .slice-known .given i .fits) (λ i. c .before .slice-known2 .given i .fits) (x .extend .ensures .1) (c .if5 .taken)
 
-add-t26 : tie.Need-add-t26
-add-t26 c = omega (arith, less (c .before .before .before .before .before .before .before))
+add-t23 : tie.Need-add-t23
+add-t23 c = omega (arith, less (c .before .before .before .before .before .before .before))
 
 same-length-4 : tie.Need-same-length-4
 same-length-4 c = search needs
@@ -143,7 +140,7 @@ same-length-4 c = search needs
 returns-6 : tie.Need-returns-6
 returns-6 c =
     let m = c .before in
-    append-unread _ _ _ _ (ordered (m .before .before .before .before .before .before .before .before)) (m .before .before .before .before .before .before .before .if2 .left) _ _ (reason-of m)
+    append-unread _ _ _ _ (ordered (m .before .before .before .before .before .before)) (m .before .before .before .before .before .if2 .left) _ _ (reason-of m)
 
 same-length-5 : tie.Need-same-length-5
 same-length-5 c = search needs
@@ -155,7 +152,7 @@ returns-7 c =
     let m = e .before .before .before .before .before .before in
     let r = row-of m in
     let a = append-some _ _ _ _ (given m) (r .0) (r .1) (legal (e .before .before)) (less e .0) _ (x .extend .result) _ _ (ap (λ (f : Found). f .bits) (r .2)) (x .before .wide2 .ensures)
-    (x .extend .ensures .0) (λ i. m .before .before .before .before .before .before .before .before .before .before .slice-known .given i .fits) (λ i. c .before .before .slice-known2 .given i .fits) (x .extend .ensures .1) (c .before .if5 .left) in
+    (x .extend .ensures .0) (λ i. m .before .before .before .before .before .before .before .before .slice-known .given i .fits) (λ i. c .before .before .slice-known2 .given i .fits) (x .extend .ensures .1) (c .before .if5 .left) in
     let n = less e .1 in
     (ap (λ (k : ℕ). accepted (x .extend .result, k)) (add-one _ ∙ ap suc n) ∙ a .0, a .1)
 
@@ -169,7 +166,6 @@ append-spec =
     sub-scan
     part-scan-start
     part-scan-end
-    slice-aggregate-scan
     scan-requires
     enum-known-scanned
     enum-known-scanned-2
@@ -183,7 +179,7 @@ append-spec =
     extend-requires
     same-length-3
     returns-5
-    add-t26
+    add-t23
     same-length-4
     returns-6
     same-length-5

@@ -4,8 +4,8 @@ use borrow.Author.Needs.{needs}
 use borrow.Author.Tests.{not-true, not-false}
 use Rattle.fibonacci.proofs.Checks.{order-is}
 use Rattle.decoder.proofs.Decoding.{decode-order, decode-long, decode-contents}
-use Rattle.decoder.proofs.scan.Statement.{statement}
-use Rattle.decoder.proofs.scan.Tie as tie
+use Rattle.decoder.proofs.scan_into.Statement.{statement}
+use Rattle.decoder.proofs.scan_into.Tie as tie
 
 is-order-requires : tie.Need-is-order-requires
 is-order-requires c κs = search needs
@@ -34,8 +34,8 @@ returns-3 c =
     let e = w .before .before .before .before in
     rw (decode-contents _ _ (sym (e .before .before .is-order .ensures) ∙ not-false _ (e .before .if1 .left)) (e .if2 .left)) (w .walk .ensures)
 
-pub scan-spec : {M : Type 1} → statement M
-scan-spec =
+pub scan-into-spec : {M : Type 1} → statement M
+scan-into-spec =
     tie.close
     (tie.spec
     is-order-requires
