@@ -31,7 +31,7 @@ contents limit m b =
     (checkRest (rest (parse m b))
     (accepted (numbers m b)))
 
--- The row of an encoding, for every call that reads one: 1, 2, then 4 and 7, 6
+-- The row of an encoding, which reading and totals go on with: 1, 2, then 4 and 7, 6
 unfoldable pub decode : ℕ → List ℕ → Outcome (List ℕ)
 decode m s =
     check 1 0 (not (isOrder m))
