@@ -7,8 +7,8 @@ ghost use Rattle.fibonacci.specs.Code.{F, first, size, codeword};
 ghost use Rattle.fibonacci.specs.Encoding.{rowBits};
 ghost use Rattle.fibonacci.specs.Tables.{Order, tableRow};
 ghost use Rattle.fibonacci.specs.Calls.{accepted, Legal, largest, longest, mostBytes, checkEach};
-ghost use Rattle.encoder.specs.Writing.{write, writeInto, append, appendInto};
-ghost use Rattle.encoder.specs.Answers.{writeOutcome, appendOutcome, measuredOutcome};
+ghost use Rattle.encoder.specs.Writing.{write, writeInto, append, appendFull, appendInto};
+ghost use Rattle.encoder.specs.Answers.{writeOutcome, appendOutcome, isFull, measuredOutcome};
 
 // The refusals' numbers are paper 01's.
 pub enum WriteAnswer {
@@ -173,7 +173,7 @@ fn extend(order: usize, buf: &mut [u8], bits: usize, n: u64) -> usize
 
 // Appends a number to the encoding in the first `used` bytes of a buffer. The scan refuses where those are more than 24,064.
 pub fn append(order: usize, buf: &mut [u8], used: usize, n: u32) -> AppendAnswer
-    ensures { λ r. ⌜ (appendOutcome r ≡ append order (now (buf .entry)) used n) × (now (buf .exit) ≡ appendInto order (now (buf .entry)) used n) ⌝ }
+    ensures { λ r. ⌜ (appendOutcome r ≡ append order (now (buf .entry)) used n) × (isFull r ≡ appendFull order (now (buf .entry)) used n) × (now (buf .exit) ≡ appendInto order (now (buf .entry)) used n) ⌝ }
 {
     if !fibonacci::is_order(order) {
         return AppendAnswer::Refused(decoder::Refusal::Order);

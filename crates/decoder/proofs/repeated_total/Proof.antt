@@ -40,7 +40,7 @@ returns c =
 returns-2 : tie.Need-returns-2
 returns-2 c =
     let r = row-of (c .before .before .before) in
-    repeated-more _ _ (r .0) _ (r .1) (c .if2 .taken)
+    repeated-more _ _ (r .0) _ (r .1) (omega arith)
 
 mul-t9 : tie.Need-mul-t9
 mul-t9 c =
@@ -56,7 +56,7 @@ returns-3 c =
     let r = row-of (c .before .before .before .before) in
     let a = c .before .before .before .before .before .before .before .before .args in
     let some : 1 ≤ a .repeats = omega (arith, c .before .before .if1 .left) in
-    ap (λ (f : Found). accepted (a .repeats * f .total)) (r .2) ∙ repeated-sum _ _ (r .0) _ (r .1) some (c .before .if2 .left)
+    ap (λ (f : Found). accepted (a .repeats * f .total)) (r .2) ∙ repeated-sum _ _ (r .0) _ (r .1) some (omega arith)
 
 returns-4 : tie.Need-returns-4
 returns-4 c =

@@ -15,7 +15,7 @@ returns c = rw (decode-order _ _ (sym (c .before .is-order .ensures) ∙ not-tru
 
 returns-2 : tie.Need-returns-2
 returns-2 c =
-    rw (decode-long _ _ (sym (c .before .before .is-order .ensures) ∙ not-false _ (c .before .if1 .left)) (c .if2 .taken)) (refl, tt)
+    rw (decode-long _ (c .before .before .before .before .before .args .s .now) (sym (c .before .before .is-order .ensures) ∙ not-false _ (c .before .if1 .left)) (omega arith)) (refl, tt)
 
 first-numbers-requires : tie.Need-first-numbers-requires
 first-numbers-requires c κs = order-is _ (sym (c .before .before .is-order .ensures) ∙ not-false _ (c .before .if1 .left))
@@ -32,7 +32,7 @@ returns-3 : tie.Need-returns-3
 returns-3 c =
     let w = c .before .before in
     let e = w .before .before .before .before in
-    rw (decode-contents _ _ (sym (e .before .before .is-order .ensures) ∙ not-false _ (e .before .if1 .left)) (e .if2 .left)) (w .walk .ensures)
+    rw (decode-contents _ (e .before .before .before .before .before .args .s .now) (sym (e .before .before .is-order .ensures) ∙ not-false _ (e .before .if1 .left)) (omega arith)) (w .walk .ensures)
 
 pub scan-into-spec : {M : Type 1} → statement M
 scan-into-spec =

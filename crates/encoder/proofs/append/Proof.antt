@@ -31,7 +31,7 @@ row-of c =
     (scan-row (a .order) 0 0 _ _ (c .scanned2 .given .1) (c .before .before .scan .ensures))
 
 given : (c : tie.After-scanned2) → let a = c .before .before .before .before .before .before .before .before .before .args in Given (a .order) (a .buf .now) (a .used)
-given c = let r = row-of c in given-read _ _ _ (r .0) (c .before .before .before .before .before .if2 .left) (r .1)
+given c = let r = row-of c in given-read _ _ _ (r .0) (omega arith) (r .1)
 
 -- why the scan refused
 reason-of : (c : tie.After-scanned)
@@ -63,7 +63,7 @@ returns c =
 returns-2 : tie.Need-returns-2
 returns-2 c =
     let a = c .before .before .before .before .args in
-    append-past (a .order) (a .buf .now) (a .used) (a .n) (ordered (c .before)) (c .if2 .taken)
+    append-past (a .order) (a .buf .now) (a .used) (a .n) (ordered (c .before)) (omega arith)
 
 sub-scan : tie.Need-sub-scan
 sub-scan c = search needs
@@ -140,7 +140,7 @@ same-length-4 c = search needs
 returns-6 : tie.Need-returns-6
 returns-6 c =
     let m = c .before in
-    append-unread _ _ _ _ (ordered (m .before .before .before .before .before .before)) (m .before .before .before .before .before .if2 .left) _ _ (reason-of m)
+    append-unread _ _ _ _ (ordered (m .before .before .before .before .before .before)) (omega arith) _ _ (reason-of m)
 
 same-length-5 : tie.Need-same-length-5
 same-length-5 c = search needs
@@ -154,7 +154,7 @@ returns-7 c =
     let a = append-some _ _ _ _ (given m) (r .0) (r .1) (legal (e .before .before)) (less e .0) _ (x .extend .result) _ _ (ap (λ (f : Found). f .bits) (r .2)) (x .before .wide2 .ensures)
     (x .extend .ensures .0) (λ i. m .before .before .before .before .before .before .before .before .slice-known .given i .fits) (λ i. c .before .before .slice-known2 .given i .fits) (x .extend .ensures .1) (c .before .if5 .left) in
     let n = less e .1 in
-    (ap (λ (k : ℕ). accepted (x .extend .result, k)) (add-one _ ∙ ap suc n) ∙ a .0, a .1)
+    (ap (λ (k : ℕ). accepted (x .extend .result, k)) (add-one _ ∙ ap suc n) ∙ a .0, a .1, a .2)
 
 pub append-spec : {M : Type 1} → statement M
 append-spec =

@@ -19,7 +19,7 @@ passed : (c : tie.After-measured2)
     Passed (a .order) (a .row .now) (c .measured2 .given .0 .0)
 passed c =
     let m = each-accepted 3 largest 0 _ _ _ (sym (sym (ap measuredOutcome (c .measured2 .given .1)) ∙ c .before .before .measure .ensures)) in
-    record { order = ordered (c .before .before .before .before .before .before); count = c .before .before .before .before .before .if2 .left; legal = m .0; long = accepted-one (m .1) }
+    record { order = ordered (c .before .before .before .before .before .before); count = omega arith; legal = m .0; long = accepted-one (m .1) }
 
 is-order-requires : tie.Need-is-order-requires
 is-order-requires c κs = search needs
@@ -32,13 +32,13 @@ returns c =
 returns-2 : tie.Need-returns-2
 returns-2 c =
     let a = c .before .before .before .before .before .args in
-    write-count (a .order) (a .row .now) (a .out .now) (ordered (c .before)) (c .if2 .taken)
+    write-count (a .order) (a .row .now) (a .out .now) (ordered (c .before)) (omega arith)
 
 first-numbers-requires : tie.Need-first-numbers-requires
 first-numbers-requires c κs = order-is _ (ordered (c .before))
 
 measure-requires : tie.Need-measure-requires
-measure-requires c κs = (order-is _ (ordered (c .before .before .before)), c .before .first-numbers .ensures, c .before .before .if2 .left, omega arith)
+measure-requires c κs = (order-is _ (ordered (c .before .before .before)), c .before .first-numbers .ensures, omega arith, omega arith)
 
 enum-known-measured : tie.Need-enum-known-measured
 enum-known-measured c = search needs
@@ -71,7 +71,7 @@ put-row-requires c κs =
 returns-4 : tie.Need-returns-4
 returns-4 c =
     let a = c .before .before .before .before .before .before .before .before .before .before .before .args in
-    write-number (a .order) (a .row .now) (a .out .now) (ordered (c .before .before .before .before .before .before .before)) (c .before .before .before .before .before .before .if2 .left) _ _
+    write-number (a .order) (a .row .now) (a .out .now) (ordered (c .before .before .before .before .before .before .before)) (omega arith) _ _
     (ap measuredOutcome (c .before .measured .given .1)) (c .before .before .before .measure .ensures)
 
 same-length : tie.Need-same-length
