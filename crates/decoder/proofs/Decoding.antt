@@ -19,7 +19,7 @@ use Rattle.decoder.specs.declared.Found.{Found}
 use Rattle.decoder.specs.declared.ScanAnswer.{ScanAnswer}
 use Rattle.decoder.specs.declared.ScanAnswer.the-variants.{Row, Refused}
 use Rattle.decoder.specs.Answers.{refusal, scanOutcome, found, Stored}
-use Rattle.decoder.proofs.Scanning.{finished-all, rest-good}
+use Rattle.decoder.proofs.Checking.{finished-all, rest-good}
 use Rattle.decoder.specs.Demand.{ReturnsParse}
 use Rattle.decoder.specs.Reading.{checkFinished, contents, decode, read, readInto, total, repeatedTotal}
 
@@ -160,7 +160,7 @@ total-refused m s a b n p e = rw e refl
 sum-whole : (row : List ℕ) → length row ≤ longest → sum (slice 0 longest row) ≡ sum row
 sum-whole row h = ap sum (take-all longest row h)
 
-sum-most : (row : List ℕ) → Legal largest row → sum row ≤ largest * length row
+pub sum-most : (row : List ℕ) → Legal largest row → sum row ≤ largest * length row
 sum-most [] a = omega arith
 sum-most (n ∷ row) a = omega (arith, number-is largest n (a .0), sum-most row (a .1))
 

@@ -1,2 +1,4 @@
+pub mod Reached
+pub mod Checking
 pub mod Scanning
 pub mod Decoding

@@ -76,8 +76,9 @@ fn ones_value(firsts: &[u32; 47], order: usize, len: usize, run: usize) -> u64
     after - fibonacci::first_number(firsts, order, len + 1)
 }
 
-// The number of a codeword by the bits before its last ones and their value; 0 where it is above 4,294,967,295 by its length alone.
-fn number(firsts: &[u32; 47], order: usize, len: usize, val: u64) -> u64
+// The number of a codeword by the bits before its last ones and their value; 0 where it is above 4,294,967,295 by its length alone. The readers check their
+// order before, and values of so few bits stay small.
+pub fn number(firsts: &[u32; 47], order: usize, len: usize, val: u64) -> u64
     requires { ⌜ Order order × (now firsts ≡ tableRow (first order)) × (val < 2 ^ 63) ⌝ }
     ensures { λ r. ⌜ (first order len ≤ largest → r ≡ first order len + val) × (largest < first order len → r ≡ 0) ⌝ }
 {
@@ -107,7 +108,7 @@ fn plus(sum: u64, from: usize, to: usize, i: usize, n: u64) -> u64
 }
 
 // Whether pending bits are padding: fewer than 8, and no one among them, which would count in their value or in the ones at their end.
-fn is_padding(len: usize, val: u64, run: usize) -> bool
+pub fn is_padding(len: usize, val: u64, run: usize) -> bool
     ensures { λ r. ⌜ r ≡ (ltb len 8 && (eqb val 0 && eqb run 0)) ⌝ }
 {
     len < 8 && (val == 0 && run == 0)
@@ -189,8 +190,8 @@ pub fn scan(order: usize, s: &[u8], from: usize, to: usize) -> ScanAnswer
     scan_into(order, s, from, to, &mut row)
 }
 
-// The first n elements of one list over those of another.
-fn copy(to: &mut [u32], row: &[u32], n: usize)
+// The first n elements of one list over those of another. The readers check that there is room.
+pub fn copy(to: &mut [u32], row: &[u32], n: usize)
     requires { ⌜ (n ≤ length (now row)) × (n ≤ length (now to)) ⌝ }
     ensures { λ r. ⌜ now (to .exit) ≡ take n (now (row .entry)) ++ drop n (now (to .entry)) ⌝ }
 {

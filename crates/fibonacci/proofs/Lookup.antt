@@ -16,7 +16,7 @@ use Rattle.fibonacci.proofs.Numeration.{F-rises}
 use Rattle.fibonacci.proofs.Numbers.{first-rises}
 
 -- entry i of a list of values
-values-at : {A : Type 0} (f : ℕ → A) (j n i : ℕ) (z : A) → i < n → getD (valuesFrom f j n) i z ≡ f (j + i)
+pub values-at : {A : Type 0} (f : ℕ → A) (j n i : ℕ) (z : A) → i < n → getD (valuesFrom f j n) i z ≡ f (j + i)
 values-at f j zero i z h = absurd (omega arith)
 values-at f j (suc n) zero z h = ap f (sym (add-zero j))
 values-at f j (suc n) (suc i) z h = values-at f (suc j) n i z (omega arith) ∙ ap f (omega arith)
