@@ -48,6 +48,11 @@ fn read(name: &str, order: u64, s: &[u8], out: &mut [u32]) {
     println!("{name}: read, order {order}, encoding{} -> {}, count {}; output{}", bytes(s), said(&a), a.results, numbers(out));
 }
 
+fn read_by_bytes(name: &str, s: &[u8], out: &mut [u32]) {
+    let a = model::read(3, s, out);
+    println!("{name}: read by bytes, encoding{} -> {}, count {}; output{}", bytes(s), said(&a), a.results, numbers(out));
+}
+
 fn append(name: &str, order: u64, buf: &mut [u8], used: u64, n: u32) -> Answer<(u64, u64)> {
     let before = bytes(buf);
     let a = model::append(order, buf, used, n);
@@ -82,6 +87,9 @@ fn write_into(name: &str, order: u64, row: &[u32], room: usize) {
 
 fn read_into(name: &str, order: u64, s: &[u8], room: usize) {
     read(name, order, s, &mut vec![7_777_777; room]);
+    if order == 3 {
+        read_by_bytes(name, s, &mut vec![7_777_777; room]);
+    }
 }
 
 fn round_trip(name: &str, order: u64, row: &[u32], room: usize) {
@@ -256,6 +264,17 @@ fn short_rests() {
     refuse(name, 3, &[0xFF]);
     refuse(name, 6, &[0xF8]);
     refuse(name, 4, &[0x00, 0x01]);
+}
+
+fn inside_bytes() {
+    let name = "inside a byte";
+    read_into(name, 3, &[0x03, 0xBF], 3);
+    read_into(name, 3, &[0x03, 0xF7], 3);
+    read_into(name, 3, &[0x03, 0xFE], 4);
+    read_into(name, 3, &[0x01, 0xFF], 2);
+    read_into(name, 3, &[0x07, 0xE0], 2);
+    read_into(name, 3, &[0x03, 0xFF], 4);
+    read_into("600", 3, &encoding(3, &[600]), 1);
 }
 
 fn unfinished() {
@@ -466,6 +485,7 @@ fn main() {
         digits(order, byte);
     }
     short_rests();
+    inside_bytes();
     unfinished();
     large_among_ones();
     one_too_many();

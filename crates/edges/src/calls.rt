@@ -54,6 +54,17 @@ pub fn read(name: &[u8], order: usize, s: &[u8], out: &mut [u32]) {
     end();
 }
 
+// The byte reader, whose order is 3.
+fn read_by_bytes(name: &[u8], s: &[u8], out: &mut [u32]) {
+    text(name);
+    text(b": read by bytes");
+    with_bytes(b", encoding", s);
+    let a = answers::of_read(table_decoder::read(s, out));
+    answers::print(a, b", count ");
+    with_row(b"; output", out);
+    end();
+}
+
 fn begin_append(name: &[u8], order: usize, buf: &[u8], used: usize, n: u32) {
     begin(name, b": append, order ", order);
     with_bytes(b", buffer", buf);
@@ -127,11 +138,21 @@ pub fn write_then_append(name: &[u8], order: usize, row: &[u32], room: usize, n:
     }
 }
 
-// Reading into a fresh list of so many numbers.
+fn read_by_bytes_into(name: &[u8], s: &[u8], room: usize) {
+    let mut out = [7777777u32; 4100];
+    if room <= 4100 {
+        read_by_bytes(name, s, &mut out[0..room]);
+    }
+}
+
+// Reading into a fresh list of so many numbers; in order 3 with the byte reader too.
 pub fn read_into(name: &[u8], order: usize, s: &[u8], room: usize) {
     let mut out = [7777777u32; 4100];
     if room <= 4100 {
         read(name, order, s, &mut out[0..room]);
+    }
+    if order == 3 {
+        read_by_bytes_into(name, s, room);
     }
 }
 

@@ -65,6 +65,18 @@ pub fn short_rests() {
     refuse(name, 4, &[0x00, 0x01]);
 }
 
+// Codewords inside a byte after one that begins before it, and ones on both sides of the edge of a byte.
+pub fn inside_bytes() {
+    let name: &[u8] = b"inside a byte";
+    read_into(name, 3, &[0x03, 0xBF], 3);
+    read_into(name, 3, &[0x03, 0xF7], 3);
+    read_into(name, 3, &[0x03, 0xFE], 4);
+    read_into(name, 3, &[0x01, 0xFF], 2);
+    read_into(name, 3, &[0x07, 0xE0], 2);
+    read_into(name, 3, &[0x03, 0xFF], 4);
+    read_into(b"600", 3, &[0x6D, 0xB8], 1);
+}
+
 // Codewords that do not end, and codewords that end too late for a legal number.
 pub fn unfinished() {
     let name: &[u8] = b"zeros";

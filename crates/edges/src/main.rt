@@ -85,8 +85,9 @@ fn encodings_of_every_order() {
     encodings::digits(6, 0x3E);
 }
 
-fn encodings_of_order_2() {
+fn encodings_of_some_orders() {
     encodings::short_rests();
+    encodings::inside_bytes();
     encodings::unfinished();
     encodings::large_first();
     encodings::large_last();
@@ -142,7 +143,7 @@ fn main() {
     numbers_too_large();
     long_rows();
     encodings_of_every_order();
-    encodings_of_order_2();
+    encodings_of_some_orders();
     no_orders();
     writings();
     appendings();

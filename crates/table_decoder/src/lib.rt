@@ -1,0 +1,157 @@
+// Reading an encoding of order 3 byte by byte, by a table of 768 rows.
+ghost use mathlib.Core.Path.{_≡_};
+ghost use mathlib.Core.List.{_++_, _∷_, []};
+ghost use Prim.Native.Nat.{_+_, _*_, _≤_, _<_};
+ghost use lib.ListN.{length, take, drop};
+ghost use lib.Seq.{sets};
+ghost use Rattle.bits.specs.Bits.{unpack};
+ghost use Rattle.fibonacci.specs.Calls.{accepted, andThen, largest, mostBytes};
+ghost use Rattle.decoder.specs.Reading.{contents, decode, read, readInto};
+ghost use Rattle.decoder.specs.Answers.{readOutcome};
+ghost use Rattle.table_decoder.specs.Reading.{numberBytes, rowBytes, readBytes, readBytesInto};
+ghost use Rattle.table_decoder.specs.Answers.{rowOutcome, Begins, Tables};
+
+// A row has at most 4,096 numbers, and a byte may end two more codewords after the one that is counted.
+const ROOM: usize = 4098;
+
+pub enum RowAnswer {
+    // How many numbers the row has.
+    Row(usize),
+    Refused(decoder::Refusal),
+}
+
+// Three numbers from element i on.
+fn put(row: &mut [u32; ROOM], i: usize, first: u64, second: u32, third: u32)
+    requires { ⌜ (i < 4096) × (length (now row) ≡ 4098) × (first ≤ largest) ⌝ }
+    ensures { λ r. ⌜ now (row .exit) ≡ sets (now (row .entry)) i (first ∷ second ∷ third ∷ []) ⌝ }
+{
+    row[i] = first as u32;
+    row[i + 1] = second;
+    row[i + 2] = third;
+}
+
+// A pending length up to 37. No codeword with 37 bits or more before its last ones has a legal number, so how many more they are does not matter.
+fn held(len: usize) -> usize
+    ensures { λ r. ⌜ (len < 37 → r ≡ len) × (37 ≤ len → r ≡ 37) ⌝ }
+{
+    if len < 37 { len } else { 37 }
+}
+
+// The scan after the check of the length, byte by byte. Pending are `len` bits, the last of them a zero, whose value is `val`, and then a one for each 256 in `ones`.
+fn walk(
+    heads: &[u32; 768],
+    tails: &[u32; 768],
+    positions: &[u32; 40],
+    firsts: &[u32; 47],
+    s: &[u8],
+    row: &mut [u32; ROOM],
+) -> RowAnswer
+    requires { ⌜ Tables (now heads) (now tails) (now positions) (now firsts) × (length (now s) ≤ mostBytes) × (length (now row) ≡ 4098) ⌝ }
+    ensures { λ r. ⌜ (rowOutcome r ≡ andThen (contents largest 3 (unpack (now (s .entry)))) (λ row. accepted (length row))) × Begins (contents largest 3 (unpack (now (s .entry)))) (now (row .exit)) × (length (now (row .exit)) ≡ 4098) ⌝ }
+{
+    let mut count: usize = 0;
+    let mut len: usize = 0;
+    let mut val: u64 = 0;
+    let mut ones: usize = 0;
+    for i in 0..s.len() {
+        let r = byte_table::look_up(heads, tails, ones + s[i] as usize);
+        let end = len + r.len;
+        let sum = val + byte_table::moved(positions, len, r.x, r.y, r.z);
+        ones = r.next;
+        if r.count == 0 {
+            len = held(end);
+            val = sum;
+        } else {
+            if count == fibonacci::LONGEST {
+                return RowAnswer::Refused(decoder::Refusal::Count);
+            }
+            let n = decoder::number(firsts, 3, end, sum);
+            if !fibonacci::is_number(n, fibonacci::LARGEST) {
+                return RowAnswer::Refused(decoder::Refusal::Number(count));
+            }
+            put(row, count, n, r.second, r.third);
+            count += r.count;
+            if count > fibonacci::LONGEST {
+                return RowAnswer::Refused(decoder::Refusal::Count);
+            }
+            len = r.left;
+            val = r.val;
+        }
+    }
+    if !decoder::is_padding(len, val, ones) {
+        return RowAnswer::Refused(decoder::Refusal::Rest);
+    }
+    RowAnswer::Row(count)
+}
+
+// The scan of an encoding: its checks, and how many numbers the row has. The row goes to a list of the caller's own.
+fn scan_into(s: &[u8], row: &mut [u32; ROOM]) -> RowAnswer
+    requires { ⌜ length (now row) ≡ 4098 ⌝ }
+    ensures { λ r. ⌜ (rowOutcome r ≡ andThen (decode 3 (now (s .entry))) (λ row. accepted (length row))) × Begins (decode 3 (now (s .entry))) (now (row .exit)) × (length (now (row .exit)) ≡ 4098) ⌝ }
+{
+    if s.len() > fibonacci::MOST_BYTES {
+        return RowAnswer::Refused(decoder::Refusal::Bytes);
+    }
+    let heads = byte_table::heads();
+    let tails = byte_table::tails();
+    let positions = byte_table::positions();
+    let firsts = fibonacci::first_numbers(3);
+    walk(&heads, &tails, &positions, &firsts, s, row)
+}
+
+// Reads an encoding of order 3. The row goes to a list of its own first, as a refusal must leave the output as it was.
+pub fn read(s: &[u8], out: &mut [u32]) -> decoder::ReadAnswer
+    ensures { λ r. ⌜ (readOutcome r ≡ read 3 (now (s .entry)) (length (now (out .entry)))) × (now (out .exit) ≡ readInto 3 (now (s .entry)) (now (out .entry))) ⌝ }
+{
+    let mut row: [u32; ROOM] = [0; ROOM];
+    let scanned = scan_into(s, &mut row);
+    match scanned {
+        RowAnswer::Row(count) => {
+            if out.len() < count {
+                return decoder::ReadAnswer::Room;
+            }
+            decoder::copy(out, &row, count);
+            decoder::ReadAnswer::Row(count)
+        }
+        RowAnswer::Refused(r) => decoder::ReadAnswer::Refused(r),
+    }
+}
+
+// A number as four bytes from byte i on, the lowest first.
+fn put_number(out: &mut [u8], i: usize, n: u32)
+    requires { ⌜ i + 4 ≤ length (now out) ⌝ }
+    ensures { λ r. ⌜ now (out .exit) ≡ sets (now (out .entry)) i (numberBytes n) ⌝ }
+{
+    out[i] = (n % 256) as u8;
+    out[i + 1] = (n / 256 % 256) as u8;
+    out[i + 2] = (n / 65536 % 256) as u8;
+    out[i + 3] = (n / 16777216 % 256) as u8;
+}
+
+// The first n numbers of a list as bytes over those of a buffer.
+fn put_row(out: &mut [u8], row: &[u32], n: usize)
+    requires { ⌜ (n ≤ length (now row)) × (4 * n ≤ length (now out)) ⌝ }
+    ensures { λ r. ⌜ now (out .exit) ≡ rowBytes (take n (now (row .entry))) ++ drop (4 * n) (now (out .entry)) ⌝ }
+{
+    for i in 0..n {
+        put_number(out, 4 * i, row[i]);
+    }
+}
+
+// Reads an encoding of order 3 for a host that takes each number as four bytes, the lowest first.
+pub fn read_bytes(s: &[u8], out: &mut [u8]) -> decoder::ReadAnswer
+    ensures { λ r. ⌜ (readOutcome r ≡ readBytes (now (s .entry)) (length (now (out .entry)))) × (now (out .exit) ≡ readBytesInto (now (s .entry)) (now (out .entry))) ⌝ }
+{
+    let mut row: [u32; ROOM] = [0; ROOM];
+    let scanned = scan_into(s, &mut row);
+    match scanned {
+        RowAnswer::Row(count) => {
+            if out.len() < 4 * count {
+                return decoder::ReadAnswer::Room;
+            }
+            put_row(out, &row, count);
+            decoder::ReadAnswer::Row(count)
+        }
+        RowAnswer::Refused(r) => decoder::ReadAnswer::Refused(r),
+    }
+}
