@@ -1,0 +1,49 @@
+// The two functions that the loom's host, written in C, calls on its own buffers. `include/leadginger.h` declares them.
+ghost use mathlib.Core.Path.{_≡_};
+ghost use Prim.Native.Nat.{_+_, _*_, _≤_};
+ghost use lib.ListN.{length};
+ghost use Rattle.fibonacci.specs.Calls.{longest};
+ghost use Rattle.decoder.specs.Answers.{reason};
+ghost use Rattle.decoder.specs.Reading.{total};
+ghost use Rattle.table_decoder.specs.Reading.{readBytes, readBytesInto};
+ghost use Rattle.host.specs.Host.{hostNumber};
+
+// The host's number for an encoding that is not read.
+fn unread(r: decoder::Refusal) -> u64
+    requires { ⌜ reason r .1 ≤ longest ⌝ }
+    ensures { λ n. ⌜ n ≡ reason r .0 + 32 * reason r .1 ⌝ }
+{
+    match r {
+        decoder::Refusal::Order => 1,
+        decoder::Refusal::Bytes => 2,
+        decoder::Refusal::Count => 4,
+        decoder::Refusal::Number(place) => 7 + 32 * place as u64,
+        decoder::Refusal::Rest => 6,
+    }
+}
+
+// The byte reader: the encoding `s` of order 3, each number of its row into four bytes of `out`, the lowest first.
+#[no_mangle]
+pub extern "C" fn leadginger_read(s: &[u8], out: &mut [u8]) -> u64
+    ensures { λ r. ⌜ (r ≡ hostNumber (readBytes (now (s .entry)) (length (now (out .entry))))) × (now (out .exit) ≡ readBytesInto (now (s .entry)) (now (out .entry))) ⌝ }
+{
+    let answer = table_decoder::read_bytes(s, out);
+    match answer {
+        decoder::ReadAnswer::Row(count) => 32 * count as u64,
+        decoder::ReadAnswer::Refused(r) => unread(r),
+        decoder::ReadAnswer::Room => 5,
+    }
+}
+
+// The span total: the numbers from place a up to but without place b of the encoding `s`.
+#[no_mangle]
+pub extern "C" fn leadginger_total(order: usize, s: &[u8], a: usize, b: usize) -> u64
+    ensures { λ r. ⌜ r ≡ hostNumber (total order (now (s .entry)) a b) ⌝ }
+{
+    let answer = decoder::total(order, s, a, b);
+    match answer {
+        decoder::TotalAnswer::Sum(total) => 32 * total,
+        decoder::TotalAnswer::Refused(r) => unread(r),
+        decoder::TotalAnswer::Span => 8,
+    }
+}
