@@ -2,7 +2,7 @@
 
    Reads an encoding of order 3 from a file and prints the row, a line for each number (its place and the number), then the count and the
    total of the numbers from place FROM up to but without place TO, or of the whole row. A refusal is said in words, and no row is printed.
-   Exit status: 0 accepted, 1 refused, 2 the arguments or the file would not do. */
+   Exit status: 0 accepted, 1 refused, 2 the arguments or the file would not do, or the output cannot be written. */
 #include <errno.h>
 #include <inttypes.h>
 #include <stdint.h>
@@ -61,7 +61,7 @@ static int refuse(const char *name, uint64_t result)
     fprintf(stderr, "loom: %s: refusal %d", name, answer);
     if (answer == LEADGINGER_NUMBER)
         fprintf(stderr, " at place %zu", leadginger_place(result));
-    fprintf(stderr, ": %s\n", leadginger_refusal(answer));
+    fprintf(stderr, ": %s\n", leadginger_words(result));
     return 1;
 }
 
@@ -93,7 +93,7 @@ int main(int argc, char **argv)
         printf("%5zu%16" PRIu32 "\n", i, leadginger_number(row, i));
     printf("COUNT%16zu\n", count);
     printf("TOTAL%16" PRIu64 "\n", total);
-    if (fflush(stdout) != 0) {
+    if (fflush(stdout) != 0 || ferror(stdout)) {
         fprintf(stderr, "loom: the output cannot be written\n");
         return 2;
     }

@@ -15,8 +15,8 @@
    The helpers below take a result apart. The first check that fails decides, in the order in which each function lists its refusals, and
    a refusal writes to no buffer.
 
-   The caller vouches for the buffers: a pointer is not null, even where its length is 0, and has as many bytes behind it as its length
-   says; the two buffers of leadginger_read do not overlap. */
+   The caller vouches for the buffers: a pointer is not null, even where its length is 0 (as the data() of an empty std::vector may be),
+   and has as many bytes behind it as its length says; the two buffers of leadginger_read do not overlap. A call takes some 25 KB of the stack. */
 #ifndef LEADGINGER_H
 #define LEADGINGER_H
 
@@ -81,10 +81,10 @@ static inline uint32_t leadginger_number(const uint8_t *out, size_t i)
     return (uint32_t)p[0] | (uint32_t)p[1] << 8 | (uint32_t)p[2] << 16 | (uint32_t)p[3] << 24;
 }
 
-/* An answer in words, to be shown to a person; never null. */
-static inline const char *leadginger_refusal(int answer)
+/* The answer in words, to be shown to a person; never null. */
+static inline const char *leadginger_words(uint64_t result)
 {
-    switch (answer) {
+    switch (leadginger_answer(result)) {
     case LEADGINGER_ACCEPTED: return "accepted";
     case LEADGINGER_ORDER: return "the order is not 2 to 6";
     case LEADGINGER_BYTES: return "the encoding has more than 24,064 bytes";

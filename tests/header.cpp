@@ -44,6 +44,7 @@ int main()
     check(leadginger_total(7, row_600, sizeof row_600, 0, 1) == LEADGINGER_ORDER, "order");
 
     for (int answer : answers)
-        check(std::strlen(leadginger_refusal(answer)) > 0, "words");
+        check(std::strlen(leadginger_words(static_cast<uint64_t>(answer))) > 0, "words");
+    check(std::strcmp(leadginger_words(7 + 32 * 5), leadginger_words(7)) == 0, "words of a 7 with its place");
     return failures == 0 ? 0 : 1;
 }

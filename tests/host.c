@@ -112,7 +112,7 @@ static void print_bytes(const char *name, const uint8_t *p, size_t n)
 /* Says which case went wrong and ends the program. */
 static void fail(const char *call, const char *what, uint64_t expected, uint64_t got)
 {
-    printf("\ntests/host: FAILED: %s: %s\n", group, call);
+    printf("\ntests/host: FAILED: %s, case %lu: %s\n", group, cases, call);
     print_bytes("s", bytes, length);
     printf("  %s: expected %" PRIu64 ", got %" PRIu64 "\n", what, expected, got);
     exit(1);
@@ -363,18 +363,9 @@ static void worked_made(size_t m, size_t a, size_t b, uint64_t result)
         fail("leadginger_read, a worked example", "answer", result % 32, got % 32);
 }
 
-/* Results by hand, from paper 01 and the readings of it. */
-static void worked_examples(void)
+/* Paper 01's knots to check by pencil, and the like. */
+static void pencil_examples(void)
 {
-    static const char *const largest[7] = {
-        NULL, NULL, "24 88 08 A2 A1 16", "D0 59 60 A4 6E", "96 5A 5C 9B 3C", "F1 08 82 69 7C", "D2 A8 B3 DC 7E"};
-    static const char *const one_more[7] = {
-        NULL, NULL, "A4 88 08 A2 A1 16", "30 59 60 A4 6E", "56 5A 5C 9B 3C", "09 08 82 69 7C", "32 A8 B3 DC 7E"};
-    size_t m;
-
-    begin("worked examples, with results by hand");
-
-    /* the pencil checks */
     worked_total(2, "", 0, 0, 0);
     worked_total(2, "3E DE", 0, 5, 352);
     worked_read("6D B8", 4, 32, "58 02 00 00"); /* 600, not 599 */
@@ -389,16 +380,28 @@ static void worked_examples(void)
     worked_read("E6 0B 2C 14 8D C0", 8, 39, ""); /* 1, then the number after the largest */
     worked_read("6D BF CE DB 75 C0", 20, 160, "58 02 00 00 01 00 00 00 0C 00 00 00 58 02 00 00 07 00 00 00");
     worked_read("70", 4, 32, "02 00 00 00"); /* the first number of its length, and the digit sum is 0 */
+}
 
-    /* the largest number, and the next, in each order */
+/* The largest number, and the next, in each order. Their codewords were worked out apart from this program, by the greedy rule. */
+static void largest_examples(void)
+{
+    static const char *const largest[7] = {
+        NULL, NULL, "24 88 08 A2 A1 16", "D0 59 60 A4 6E", "96 5A 5C 9B 3C", "F1 08 82 69 7C", "D2 A8 B3 DC 7E"};
+    static const char *const one_more[7] = {
+        NULL, NULL, "A4 88 08 A2 A1 16", "30 59 60 A4 6E", "56 5A 5C 9B 3C", "09 08 82 69 7C", "32 A8 B3 DC 7E"};
+    size_t m;
+
     for (m = 2; m <= 6; m++) {
         worked_total(m, largest[m], 0, 1, 32 * (uint64_t)PLAIN_NUMBER_MAX);
         worked_total(m, one_more[m], 0, 1, 7);
     }
     worked_read("D0 59 60 A4 6E", 4, 32, "FF FF FF FF");
     worked_read("30 59 60 A4 6E", 4, 7, "");
+}
 
-    /* 4 and 7 from the left */
+/* 4 and 7 from the left. */
+static void count_examples(void)
+{
     clear();
     put(2, 4294967296u);
     put_ones(2 * 4097);
@@ -421,8 +424,11 @@ static void worked_examples(void)
     worked_made(3, 0, 4096, 32 * 4096);
     put_ones(3);
     worked_made(3, 0, 4096, 4);
+}
 
-    /* 7 only at a finished codeword, 6 after it */
+/* 7 only at a finished codeword, 6 after it; the rest; the most bytes. */
+static void rest_examples(void)
+{
     worked_total(2, "00 00 00 00 00 00 00 00 00", 0, 0, 6);
     worked_total(2, "00 00 00 00 00 00 00 00 03", 0, 0, 7);
     worked_total(2, "00 00 00 00 00 00 00 00 03 01", 0, 0, 7);
@@ -431,7 +437,6 @@ static void worked_examples(void)
     worked_read("00 00 00 00 00 00 00 00 07 01", 4, 7, "");
     worked_read("E0 00 00 00 00 00 00 00 07 01", 4, 39, "");
 
-    /* the rest */
     worked_total(2, "C0 00", 0, 0, 6);
     worked_total(2, "C0", 0, 1, 32);
     worked_read("FC", 8, 64, "01 00 00 00 01 00 00 00");
@@ -440,15 +445,17 @@ static void worked_examples(void)
     worked_read("07 00", 4, 6, "");
     worked_read("07 01", 4, 6, "");
 
-    /* the most bytes */
     clear();
     put_zeros(8 * 24064);
     worked_made(3, 0, 0, 6);
     put_zeros(8);
     worked_made(3, 0, 0, 2);
     worked_made(7, 0, 0, 1);
+}
 
-    /* spans; the whole encoding is checked before the span */
+/* The whole encoding is checked before the span. */
+static void span_examples(void)
+{
     worked_total(2, "3E DE", 2, 2, 0);
     worked_total(2, "3E DE", 5, 5, 0);
     worked_total(2, "3E DE", 6, 6, 8);
@@ -456,14 +463,29 @@ static void worked_examples(void)
     worked_total(2, "3E DE", 1, 4, 32 * 7);
     worked_total(2, "E0", 9, 0, 6);
     worked_total(2, "3E DE 00", 0, 1, 6);
+}
 
-    /* the byte reader: codewords that end at, and lie inside, a byte after 0, 1 and 2 trailing ones */
+/* Codewords that end at, and lie inside, a byte after 0, 1 and 2 trailing ones. */
+static void byte_examples(void)
+{
     worked_read("07 E0", 8, 64, "10 00 00 00 01 00 00 00");
     worked_read("03 BF", 12, 96, "1D 00 00 00 02 00 00 00 01 00 00 00");
     worked_read("03 F7", 12, 96, "1D 00 00 00 01 00 00 00 02 00 00 00");
     worked_read("03 FE", 12, 96, "1D 00 00 00 01 00 00 00 01 00 00 00");
     worked_read("03 FF", 12, 6, "");
     worked_read("01 FF", 12, 96, "35 00 00 00 01 00 00 00 01 00 00 00");
+}
+
+/* Results by hand, from paper 01 and the open points of docs/DECISIONS.md. */
+static void worked_examples(void)
+{
+    begin("worked examples, with results by hand");
+    pencil_examples();
+    largest_examples();
+    count_examples();
+    rest_examples();
+    span_examples();
+    byte_examples();
     end();
 }
 
@@ -650,10 +672,10 @@ static void too_large(void)
     end();
 }
 
-/* Codewords of hundreds of bits and more: the number is far above any word, and 7 is said at the end of the codeword only. */
-static void long_codewords(void)
+/* Numbers that look small where sums are taken modulo a power of two: 2^64 + 1, 2^64 + 600, 2^96 + 1 and 2^128 + 1 in each order. Their
+   codewords were worked out apart from this program. */
+static void wrapped_codewords(void)
 {
-    /* numbers that look small where sums are taken modulo a power of two: 2^64 + 1, 2^64 + 600, 2^96 + 1 and 2^128 + 1 in each order */
     static const char *const wrapped[7][4] = {
         {NULL, NULL, NULL, NULL},
         {NULL, NULL, NULL, NULL},
@@ -669,10 +691,8 @@ static void long_codewords(void)
         {"85 04 AC C0 0D 3E ED 39 7E", "88 C4 AC C0 0D 3E ED 39 7E", "55 0A 27 A2 D1 B7 2A 95 F7 C3 4A 38 3F",
          "DA BD 70 42 4F 18 4A F5 98 65 07 14 5E 5C 80 03 3F"},
     };
-    static const size_t very_long[] = {500, 1000, 2047, 2048, 2049, 4096, 10000, 32767, 32768, 65535, 65536, 65537, 100000, 131072, 192490};
-    size_t m, i, j, zeros, n;
+    size_t m, i, n;
 
-    begin("long codewords");
     for (m = 2; m <= 6; m++)
         for (i = 0; i < 4; i++) {
             n = unhex(wrapped[m][i], scratch);
@@ -686,37 +706,52 @@ static void long_codewords(void)
             made_bits += 8 * n;
             hold_made(m);
         }
-    for (m = 2; m <= 6; m++)
-        for (zeros = 0; zeros <= 400; zeros++) {
-            i = below(8);
-            /* zeros, then m ones; and what comes near it: a one less, and a number or a rest after it */
-            for (j = 0; j < 4; j++) {
-                clear();
-                put_ones(m * i);
-                put_zeros(zeros);
-                put_ones(j == 1 ? m - 1 : m);
-                if (j == 2)
-                    put(m, 5);
-                if (j == 3)
-                    put_zeros(1 + below(20));
-                hold_made(m);
-            }
-            /* as many random digits, and the largest there are */
-            clear();
-            put_ones(m * i);
-            for (j = 0; j < zeros; j++)
-                put_bit(j % m != m - 1 && next() % 2 == 0);
-            put_zeros(1);
-            put_ones(m);
-            hold_made(m);
-            clear();
-            for (j = 0; j < zeros; j++)
-                put_bit(j % m != m - 1);
-            put_zeros(1);
-            put_ones(m);
-            put(m, 1);
-            hold_made(m);
-        }
+}
+
+/* Codewords after so many ones: zeros, then m ones; and what comes near it: a one less, and a number or a rest after it. */
+static void zeros_codewords(size_t m, size_t before, size_t zeros)
+{
+    int kind;
+
+    for (kind = 0; kind < 4; kind++) {
+        clear();
+        put_ones(m * before);
+        put_zeros(zeros);
+        put_ones(kind == 1 ? m - 1 : m);
+        if (kind == 2)
+            put(m, 5);
+        if (kind == 3)
+            put_zeros(1 + below(20));
+        hold_made(m);
+    }
+}
+
+/* Codewords with so many random digits, and with the largest there are. */
+static void digits_codewords(size_t m, size_t before, size_t digits)
+{
+    size_t j;
+
+    clear();
+    put_ones(m * before);
+    for (j = 0; j < digits; j++)
+        put_bit(j % m != m - 1 && next() % 2 == 0);
+    put_zeros(1);
+    put_ones(m);
+    hold_made(m);
+    clear();
+    for (j = 0; j < digits; j++)
+        put_bit(j % m != m - 1);
+    put_zeros(1);
+    put_ones(m);
+    put(m, 1);
+    hold_made(m);
+}
+
+static void very_long_codewords(void)
+{
+    static const size_t very_long[] = {500, 1000, 2047, 2048, 2049, 4096, 10000, 32767, 32768, 65535, 65536, 65537, 100000, 131072, 192490};
+    size_t m, i, j, n;
+
     for (m = 2; m <= 6; m++)
         for (i = 0; i < sizeof very_long / sizeof very_long[0]; i++)
             for (j = 0; j < 3; j++) {
@@ -728,13 +763,75 @@ static void long_codewords(void)
                 put_ones(m);
                 hold_made(m);
             }
+}
+
+/* Codewords of hundreds of bits and more: the number is far above any word, and 7 is said at the end of the codeword only. */
+static void long_codewords(void)
+{
+    size_t m, zeros, before;
+
+    begin("long codewords");
+    wrapped_codewords();
+    for (m = 2; m <= 6; m++)
+        for (zeros = 0; zeros <= 400; zeros++) {
+            before = below(8);
+            zeros_codewords(m, before, zeros);
+            digits_codewords(m, before, zeros);
+        }
+    very_long_codewords();
     end();
+}
+
+/* A bit flipped, each in turn, and then another. */
+static void flip(size_t m, const uint8_t *base, size_t n, uint8_t *s)
+{
+    size_t k, i;
+
+    for (k = 0; k < 8 * n; k++) {
+        memcpy(s, base, n);
+        s[k / 8] ^= (uint8_t)(128 >> k % 8);
+        hold(m, s, n);
+        i = below(8 * n);
+        s[i / 8] ^= (uint8_t)(128 >> i % 8);
+        hold(m, s, n);
+    }
+}
+
+/* Cut at each byte; each byte left out. */
+static void cut(size_t m, const uint8_t *base, size_t n, uint8_t *s)
+{
+    size_t k;
+
+    for (k = 0; k < n; k++) {
+        hold(m, base, k);
+        memcpy(s, base, k);
+        memcpy(s + k, base + k + 1, n - k - 1);
+        hold(m, s, n - 1);
+    }
+}
+
+static void lengthen(size_t m, const uint8_t *base, size_t n, uint8_t *s)
+{
+    static const uint8_t tails[] = {0x00, 0x80, 0xFF, 0x07, 0x01};
+    size_t i, k;
+
+    memcpy(s, base, n);
+    for (i = 0; i < sizeof tails; i++) {
+        s[n] = tails[i];
+        hold(m, s, n + 1);
+        s[n + 1] = tails[i];
+        hold(m, s, n + 2);
+    }
+    for (i = 0; i < 20; i++) {
+        for (k = 0; k < 6; k++)
+            s[n + k] = (uint8_t)next();
+        hold(m, s, n + 1 + i % 6);
+    }
 }
 
 static void damaged(void)
 {
     static uint8_t base[INPUT], s[INPUT];
-    static const uint8_t tails[] = {0x00, 0x80, 0xFF, 0x07, 0x01};
     size_t m, count, n, k, i;
     int shape;
 
@@ -745,32 +842,9 @@ static void damaged(void)
                 make_row(m, shape, count);
                 n = made_length();
                 memcpy(base, made, n);
-                for (k = 0; k < 8 * n; k++) { /* a bit flipped; and another */
-                    memcpy(s, base, n);
-                    s[k / 8] ^= (uint8_t)(128 >> k % 8);
-                    hold(m, s, n);
-                    i = below(8 * n);
-                    s[i / 8] ^= (uint8_t)(128 >> i % 8);
-                    hold(m, s, n);
-                }
-                for (k = 0; k < n; k++) { /* cut; a byte left out */
-                    hold(m, base, k);
-                    memcpy(s, base, k);
-                    memcpy(s + k, base + k + 1, n - k - 1);
-                    hold(m, s, n - 1);
-                }
-                memcpy(s, base, n);
-                for (i = 0; i < sizeof tails; i++) { /* lengthened */
-                    s[n] = tails[i];
-                    hold(m, s, n + 1);
-                    s[n + 1] = tails[i];
-                    hold(m, s, n + 2);
-                }
-                for (i = 0; i < 20; i++) {
-                    for (k = 0; k < 6; k++)
-                        s[n + k] = (uint8_t)next();
-                    hold(m, s, n + 1 + i % 6);
-                }
+                flip(m, base, n, s);
+                cut(m, base, n, s);
+                lengthen(m, base, n, s);
             }
     for (i = 0; i < 200; i++) { /* a bit of a full row flipped */
         make_row(3, (int)(i % SHAPES), 4096);
@@ -896,37 +970,44 @@ static void lengths(void)
     end();
 }
 
-static void spans(void)
+/* Every span of a short row, and spans that end far beyond it. */
+static void short_spans(size_t m, size_t count)
 {
     static const size_t far[] = {SIZE_MAX, SIZE_MAX - 1, SIZE_MAX / 2 + 1, (size_t)((uint64_t)1 << 32), (size_t)(((uint64_t)1 << 32) + 1),
                                  65536, 65537, 256, 257, 4096, 4097};
+    size_t a, b, i;
+
+    make_row(m, (int)((m + count) % SHAPES), count);
+    take(m, made, made_length());
+    for (a = 0; a <= count + 2; a++) {
+        for (b = 0; b <= count + 2; b++)
+            total_of(a, b);
+        for (i = 0; i < sizeof far / sizeof far[0]; i++) {
+            total_of(a, far[i]);
+            total_of(far[i], a);
+            total_of(far[i], far[i]);
+        }
+    }
+    /* a rest that is refused is refused before the span */
+    put_zeros(8);
+    take(m, made, made_length());
+    total_of(0, count);
+    total_of(count, count);
+    total_of(1, 0);
+    total_of(0, SIZE_MAX);
+    total_of(SIZE_MAX, 0);
+}
+
+static void spans(void)
+{
     static const size_t edges[] = {0, 1, 2048, 4095, 4096, 4097, SIZE_MAX};
-    size_t m, count, a, b, i;
+    size_t m, count, a, b;
     int shape;
 
     begin("spans");
     for (m = 2; m <= 6; m++)
-        for (count = 0; count <= 12; count++) {
-            make_row(m, (int)((m + count) % SHAPES), count);
-            take(m, made, made_length());
-            for (a = 0; a <= count + 2; a++) {
-                for (b = 0; b <= count + 2; b++)
-                    total_of(a, b);
-                for (i = 0; i < sizeof far / sizeof far[0]; i++) {
-                    total_of(a, far[i]);
-                    total_of(far[i], a);
-                    total_of(far[i], far[i]);
-                }
-            }
-            /* a rest that is refused is refused before the span */
-            put_zeros(8);
-            take(m, made, made_length());
-            total_of(0, count);
-            total_of(count, count);
-            total_of(1, 0);
-            total_of(0, SIZE_MAX);
-            total_of(SIZE_MAX, 0);
-        }
+        for (count = 0; count <= 12; count++)
+            short_spans(m, count);
     for (m = 2; m <= 6; m++)
         for (shape = 0; shape < SHAPES; shape++) {
             make_row(m, shape, 4096);
@@ -986,8 +1067,8 @@ static void words(void)
         if (answers[i] != numbers[i])
             fail("a name", "number", (uint64_t)numbers[i], (uint64_t)answers[i]);
         for (j = 0; j < i; j++)
-            if ((strcmp(leadginger_refusal(answers[i]), leadginger_refusal(answers[j])) == 0) != (i == 9 && j == 8))
-                fail("leadginger_refusal", "two answers with the same words", (uint64_t)answers[i], (uint64_t)answers[j]);
+            if ((strcmp(leadginger_words((uint64_t)answers[i]), leadginger_words((uint64_t)answers[j])) == 0) != (i == 9 && j == 8))
+                fail("leadginger_words", "two answers with the same words", (uint64_t)answers[i], (uint64_t)answers[j]);
     }
     cases += 3;
     if (LEADGINGER_NUMBER_MAX != PLAIN_NUMBER_MAX || LEADGINGER_COUNT_MAX != PLAIN_COUNT_MAX ||

@@ -1,4 +1,4 @@
--- The table of the byte reader (paper 01, "The byte reader"; source 001, section 3.3.3): 768 rows, one for each byte after 0, 1 or 2 trailing ones. A row
+-- The table of the byte reader (paper 01, "The byte reader"; source 001, section 3.3.2): 768 rows, one for each byte after 0, 1 or 2 trailing ones. A row
 -- follows from the parse of those ones and the byte's bits, by the code of order 3.
 use mathlib.Core.Bool.{Bool, true, false}
 use mathlib.Core.List.{List, [], _∷_, _++_, map}
@@ -34,7 +34,8 @@ trail b = length b - length (stem b)
 unfoldable pub after : ℕ → ℕ → Parse
 after run byte = parse 3 (ones run ++ wordBits 8 byte)
 
--- What finishes the pending codeword: the bits before the last ones of the first codeword that ends. Where none ends, they are what remains
+-- What finishes the pending codeword: the bits before the last ones of the first codeword that ends. Where none ends, what makes it longer: the bits before
+-- the ones at the end
 unfoldable pub front : Parse → List Bool
 unfolding stem
 front (parsed [] r) = stem r
@@ -44,7 +45,7 @@ front (parsed (w ∷ ws) r) = take (length w - 3) w
 unfoldable pub inside : Parse → List ℕ
 inside p = map (number 3) (drop 1 (codewords p))
 
--- F(j) + .. over the digits j that are one, so F(j - 1) + .. and F(j - 2) + .. , F being 0 at negative places
+-- The sums of F(j), of F(j - 1) and of F(j - 2) over the bits j that are one, the first being bit 1; F is 0 at negative places
 abbrev pub byF : List Bool → ℕ
 byF b = value 3 1 b
 
@@ -55,7 +56,7 @@ abbrev pub byF2 : List Bool → ℕ
 byF2 b = value 3 0 (drop 1 b)
 
 -- What a row says: how many codewords end; what finishes the pending one, its length and its values; the codewords inside; and what remains: length,
--- value, trailing ones, 256 for each, where the rows for the next byte begin
+-- value and trailing ones. These count 256 each: the rows for the next byte begin there
 unfoldable pub rowOf : Parse → Row
 unfolding front inside stem trail
 rowOf p =
@@ -72,7 +73,7 @@ rowOf p =
       next = 256 * trail (rest p);
     }
 
--- Its values are small
+-- All of it is small
 abbrev pub Small : Row → Type 0
 Small r =
     (r .count ≤ 3) × (r .len < 16) × (r .x < 512) × (r .y < 512) × (r .z < 512) × (r .second < 16) × (r .third < 16) × (r .left < 16) × (r .val < 2 ^ 18)
@@ -105,7 +106,7 @@ F2 zero = 0
 F2 (suc zero) = 0
 F2 (suc (suc n)) = F 3 n
 
--- F(-2), F(-1), F(0), ..
+-- F(-2), F(-1), F(0), .. , as a table holds them
 unfoldable pub positionWords : List ℕ
 unfolding F2
 positionWords = valuesFrom (λ n. bounded (F2 n)) 0 40

@@ -13,7 +13,8 @@ use tables::TAILS;
 pub struct Row {
     // How many codewords end in the byte.
     pub count: usize,
-    // The bits that finish the pending codeword, or make it longer where none ends: how many, and their values by F(j), by F(j - 1) + F(j - 2), and by F(j - 1).
+    // The bits that finish the pending codeword, or make it longer where none ends: how many, and the sums of F(j), of F(j - 1) + F(j - 2), and of F(j - 1)
+    // over the ones among them.
     pub len: usize,
     pub x: u64,
     pub y: u64,
@@ -47,13 +48,7 @@ pub fn positions() -> [u32; 40]
     POSITIONS
 }
 
-fn wide(x: u32) -> u64
-    ensures { λ r. ⌜ r ≡ x ⌝ }
-{
-    x as u64
-}
-
-// Row `at`: 256 for each one that stands before, and the byte. The reader keeps `at` below 768.
+// The row at 256 for each one that stands before, plus the byte. The reader has the tables from above, and at most two ones.
 pub fn look_up(heads: &[u32; 768], tails: &[u32; 768], at: usize) -> Row
     requires { ⌜ (now heads ≡ headWords) × (now tails ≡ tailWords) × (at < 768) ⌝ }
     ensures { λ r. ⌜ (r ≡ rowAt at) × Small r ⌝ }
@@ -63,13 +58,13 @@ pub fn look_up(heads: &[u32; 768], tails: &[u32; 768], at: usize) -> Row
     Row {
         count: (head % 4) as usize,
         len: (head / 4 % 16) as usize,
-        x: wide(head / 64 % 512),
-        y: wide(head / 32768 % 256),
-        z: wide(head / 8388608 % 512),
+        x: fibonacci::wide(head / 64 % 512),
+        y: fibonacci::wide(head / 32768 % 256),
+        z: fibonacci::wide(head / 8388608 % 512),
         second: tail % 16,
         third: tail / 16 % 4,
         left: (tail / 1024 % 16) as usize,
-        val: wide(tail / 16384 % 262144),
+        val: fibonacci::wide(tail / 16384 % 262144),
         next: (tail / 256 % 4 * 256) as usize,
     }
 }
@@ -79,10 +74,10 @@ fn times(f: u32, v: u64) -> u64
     requires { ⌜ v < 512 ⌝ }
     ensures { λ r. ⌜ (r ≡ f * v) × (r < 2 ^ 41) ⌝ }
 {
-    wide(f) * v
+    fibonacci::wide(f) * v
 }
 
-// The value of a row's bits after `len` others, over whole numbers: three products. The reader keeps `len` below 38, and its values are a row's.
+// What a row's bits are worth after `len` others, over whole numbers: three products. The reader keeps `len` at 37 or less, and hands over a row's values.
 pub fn moved(positions: &[u32; 40], len: usize, x: u64, y: u64, z: u64) -> u64
     requires { ⌜ (now positions ≡ positionWords) × (len < 38) × (x < 512) × (y < 512) × (z < 512) ⌝ }
     ensures { λ r. ⌜ (r ≡ moved len x y z) × (r < 2 ^ 43) ⌝ }

@@ -83,7 +83,7 @@ module _ (m : ℕ) (stem : List Bool) (len val run : ℕ) (pos : 1 ≤ m) (short
 
 -- ## The checks from the left
 
-pub finished-more : {A : Type 0} (limit i : ℕ) (xs ys : List ℕ) (next : Outcome A) → Legal limit xs → i + length xs ≤ longest
+finished-more : {A : Type 0} (limit i : ℕ) (xs ys : List ℕ) (next : Outcome A) → Legal limit xs → i + length xs ≤ longest
     → checkFinished limit i (xs ++ ys) next ≡ checkFinished limit (i + length xs) ys next
 unfolding checkFinished
 finished-more limit i [] ys next a h = ap (λ (k : ℕ). checkFinished limit k ys next) (sym (add-zero i))

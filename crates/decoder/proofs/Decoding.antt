@@ -2,7 +2,7 @@
 use mathlib.Core.Path.{_≡_, refl, sym, ap, ap₂, _∙_}
 use mathlib.Core.Bool.{Bool, true, false, not}
 use mathlib.Core.List.{List, [], _∷_, _++_}
-use Prim.Native.Nat.{ℕ, suc, _+_, _*_, _≤_, _<_}
+use Prim.Native.Nat.{ℕ, zero, suc, _+_, _*_, _≤_, _<_}
 use native.Mathlib.Omega.{arith}
 use lib.Dec.{leb, ltb}
 use lib.ListN.{length, take, drop}
@@ -160,17 +160,27 @@ total-refused m s a b n p e = rw e refl
 sum-whole : (row : List ℕ) → length row ≤ longest → sum (slice 0 longest row) ≡ sum row
 sum-whole row h = ap sum (take-all longest row h)
 
-pub sum-most : (row : List ℕ) → Legal largest row → sum row ≤ largest * length row
+sum-most : (row : List ℕ) → Legal largest row → sum row ≤ largest * length row
 sum-most [] a = omega arith
 sum-most (n ∷ row) a = omega (arith, number-is largest n (a .0), sum-most row (a .1))
 
-module _ (m : ℕ) (s row : List ℕ) (r : ℕ) (e : decode m s ≡ accepted row) where
-  -- what is multiplied is at most 4,096 times the largest number
-  pub repeated-fits : sum (slice 0 longest row) ≤ largest * longest
-  repeated-fits =
-      let d = decode-is m s row e in
-      omega (arith, sum-whole row (d .long), sum-most row (d .legal), d .long)
+sum-take : (n : ℕ) (l : List ℕ) → sum (take n l) ≤ sum l
+sum-take zero l = omega arith
+sum-take (suc n) [] = omega arith
+sum-take (suc n) (x ∷ l) = omega (arith, sum-take n l)
 
+sum-drop : (n : ℕ) (l : List ℕ) → sum (drop n l) ≤ sum l
+sum-drop zero l = omega arith
+sum-drop (suc n) [] = omega arith
+sum-drop (suc n) (x ∷ l) = omega (arith, sum-drop n l)
+
+-- the sum of any span of a row that was read is at most 4,096 times the largest number
+pub span-most : (m : ℕ) (s row : List ℕ) (a b : ℕ) → decode m s ≡ accepted row → sum (slice a b row) ≤ largest * longest
+span-most m s row a b e =
+    let d = decode-is m s row e in
+    omega (arith, sum-drop a (take b row), sum-take b row, sum-most row (d .legal), d .long)
+
+module _ (m : ℕ) (s row : List ℕ) (r : ℕ) (e : decode m s ≡ accepted row) where
   pub repeated-sum : 1 ≤ r → r ≤ 10000 → accepted (r * sum (slice 0 longest row)) ≡ repeatedTotal m s r
   unfolding repeatedTotal
   repeated-sum l h =

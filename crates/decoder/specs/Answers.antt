@@ -7,13 +7,14 @@ use lib.Seq.{sets, slice}
 use Rattle.fibonacci.specs.Code.{sum}
 use Rattle.fibonacci.specs.Encoding.{rowBits}
 use Rattle.fibonacci.specs.Calls.{Outcome, accepted, refused}
+use Rattle.decoder.specs.Reading.{read, readInto}
 use Rattle.decoder.specs.declared.Refusal.{Refusal}
 use Rattle.decoder.specs.declared.Refusal.the-variants.{Order, Bytes, Count, Number, Rest}
 use Rattle.decoder.specs.declared.Found.{Found}
 use Rattle.decoder.specs.declared.ScanAnswer.{ScanAnswer}
 use Rattle.decoder.specs.declared.ScanAnswer.the-variants as scan
 use Rattle.decoder.specs.declared.ReadAnswer.{ReadAnswer}
-use Rattle.decoder.specs.declared.ReadAnswer.the-variants as read
+use Rattle.decoder.specs.declared.ReadAnswer.the-variants as answer
 use Rattle.decoder.specs.declared.TotalAnswer.{TotalAnswer}
 use Rattle.decoder.specs.declared.TotalAnswer.the-variants as total
 use Rattle.decoder.specs.declared.RepeatedTotalAnswer.{RepeatedTotalAnswer}
@@ -31,9 +32,13 @@ abbrev pub refusal : {A : Type 0} → Refusal → Outcome A
 refusal r = refused (reason r .0) (reason r .1)
 
 abbrev pub readOutcome : ReadAnswer → Outcome ℕ
-readOutcome (read.Row count) = accepted count
-readOutcome (read.Refused r) = refusal r
-readOutcome read.Room = refused 5 0
+readOutcome (answer.Row count) = accepted count
+readOutcome (answer.Refused r) = refusal r
+readOutcome answer.Room = refused 5 0
+
+-- What a reader of order m promises of its answer, and of its output before and after
+abbrev pub ReadPromise : ℕ → List ℕ → List ℕ → ReadAnswer → List ℕ → Type 0
+ReadPromise m s before a after = (readOutcome a ≡ read m s (length before)) × (after ≡ readInto m s before)
 
 abbrev pub totalOutcome : TotalAnswer → Outcome ℕ
 totalOutcome (total.Sum x) = accepted x

@@ -9,8 +9,8 @@ ghost use Rattle.bits.specs.Bits.{unpack};
 ghost use Rattle.fibonacci.specs.Code.{ones, value, first};
 ghost use Rattle.fibonacci.specs.Tables.{Order, tableRow};
 ghost use Rattle.fibonacci.specs.Calls.{accepted, andThen, largest};
-ghost use Rattle.decoder.specs.Reading.{contents, decode, read, readInto, total, repeatedTotal};
-ghost use Rattle.decoder.specs.Answers.{readOutcome, totalOutcome, repeatedOutcome, scanOutcome, found, Stored};
+ghost use Rattle.decoder.specs.Reading.{contents, decode, total, repeatedTotal};
+ghost use Rattle.decoder.specs.Answers.{ReadPromise, totalOutcome, repeatedOutcome, scanOutcome, found, Stored};
 
 // Why an encoding is not read. The numbers are paper 01's.
 pub enum Refusal {
@@ -77,7 +77,7 @@ fn ones_value(firsts: &[u32; 47], order: usize, len: usize, run: usize) -> u64
 }
 
 // The number of a codeword by the bits before its last ones and their value; 0 where it is above 4,294,967,295 by its length alone. The readers check their
-// order before, and values of so few bits stay small.
+// order before, and each bit or byte of an encoding adds little to a value.
 pub fn number(firsts: &[u32; 47], order: usize, len: usize, val: u64) -> u64
     requires { ⌜ Order order × (now firsts ≡ tableRow (first order)) × (val < 2 ^ 63) ⌝ }
     ensures { λ r. ⌜ (first order len ≤ largest → r ≡ first order len + val) × (largest < first order len → r ≡ 0) ⌝ }
@@ -202,7 +202,7 @@ pub fn copy(to: &mut [u32], row: &[u32], n: usize)
 
 // Reads an encoding. The row goes to a list of its own first, as a refusal must leave the output as it was.
 pub fn read(order: usize, s: &[u8], out: &mut [u32]) -> ReadAnswer
-    ensures { λ r. ⌜ (readOutcome r ≡ read order (now (s .entry)) (length (now (out .entry)))) × (now (out .exit) ≡ readInto order (now (s .entry)) (now (out .entry))) ⌝ }
+    ensures { λ r. ⌜ ReadPromise order (now (s .entry)) (now (out .entry)) r (now (out .exit)) ⌝ }
 {
     let mut row: [u32; fibonacci::LONGEST] = [0; fibonacci::LONGEST];
     let scanned = scan_into(order, s, 0, 0, &mut row);

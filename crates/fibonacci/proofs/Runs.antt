@@ -5,6 +5,7 @@ use mathlib.Core.List.{List, [], _∷_, _++_, reverseAux, reverse, reverseAux-eq
 use Prim.Native.Nat.{ℕ, zero, suc, _+_, _≤_, _<_}
 use native.Mathlib.Omega.{arith}
 use native.Mathlib.Nat.{zero-add}
+use native.Mathlib.Decide.{decLe}
 use lib.Dec.{leb}
 use borrow.Author.Tests.{le-leb, lt-leb}
 use Rattle.bits.specs.Bits.{worth}
@@ -42,6 +43,15 @@ pub runs-ones : (m k : ℕ) → k < m → runs m (ones k) ≡ 0
 unfolding runs
 runs-ones m zero h = refl
 runs-ones m (suc k) h = runs-true m (ones k) (omega (arith, lead-ones k)) ∙ runs-ones m k (omega arith)
+
+-- so many ones, and no m in a row
+pub few-ones : (m k : ℕ) → 1 ≤ m → runs m (ones k) ≡ 0 → k < m
+few-ones m zero h e = h
+few-ones m (suc k) h e =
+    elim (decLe m (suc k)) [
+      | yes l ↦ absurd (omega (arith, runs-more m (ones k) (omega (arith, lead-ones k))))
+      | no l ↦ omega arith
+    ]
 
 pub runs-all : (m : ℕ) → 1 ≤ m → runs m (ones m) ≡ 1
 runs-all zero h = absurd (omega arith)

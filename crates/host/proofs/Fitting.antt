@@ -2,18 +2,17 @@
 use mathlib.Core.Path.{_≡_, refl}
 use mathlib.Core.Bool.{Bool, true, false, not}
 use mathlib.Core.List.{List, [], _∷_}
-use Prim.Native.Nat.{ℕ, zero, suc, _*_, _≤_}
+use Prim.Native.Nat.{ℕ, suc, _*_, _≤_}
 use native.Mathlib.Omega.{arith}
 use native.Mathlib.Decide.{decLe}
 use lib.Dec.{leb, ltb}
-use lib.ListN.{length, take, drop}
+use lib.ListN.{length}
 use borrow.Author.Tests.{le-leb}
 use Rattle.bits.specs.Bits.{unpack, count}
-use Rattle.fibonacci.specs.Code.{sum}
 use Rattle.fibonacci.specs.Encoding.{rest, parse, numbers}
 use Rattle.fibonacci.specs.Calls.{Outcome, accepted, refused, check, andThen, isOrder, isNumber, largest, longest, mostBytes}
 use Rattle.decoder.specs.Reading.{checkFinished, contents, decode, total}
-use Rattle.decoder.proofs.Decoding.{decode-is, sum-most}
+use Rattle.decoder.proofs.Decoding.{decode-is, span-most}
 use Rattle.table_decoder.specs.Reading.{readBytes}
 
 -- A place is at most 4,096, and what is accepted is what it should be
@@ -56,24 +55,8 @@ bytes-fit s room =
     then-fits _ (decode 3 s) _ (decode-fits 3 s)
     (λ row e. check-fits _ 5 0 (ltb room (4 * length row)) _ (omega arith) (decode-is 3 s row e .long))
 
--- ## Totals
-
-sum-take : (n : ℕ) (l : List ℕ) → sum (take n l) ≤ sum l
-sum-take zero l = omega arith
-sum-take (suc n) [] = omega arith
-sum-take (suc n) (x ∷ l) = omega (arith, sum-take n l)
-
-sum-drop : (n : ℕ) (l : List ℕ) → sum (drop n l) ≤ sum l
-sum-drop zero l = omega arith
-sum-drop (suc n) [] = omega arith
-sum-drop (suc n) (x ∷ l) = omega (arith, sum-drop n l)
-
 pub total-fits : (m : ℕ) (s : List ℕ) (a b : ℕ) → Fits (λ x. x ≤ largest * longest) (total m s a b)
 unfolding total
 total-fits m s a b =
     then-fits _ (decode m s) _ (decode-fits m s)
-    (λ row e.
-    let d = decode-is m s row e in
-    check-fits _ 8 0 (ltb b a) _ (omega arith)
-    (check-fits _ 8 0 (ltb (length row) b) _ (omega arith)
-    (omega (arith, sum-drop a (take b row), sum-take b row, sum-most row (d .legal), d .long))))
+    (λ row e. check-fits _ 8 0 (ltb b a) _ (omega arith) (check-fits _ 8 0 (ltb (length row) b) _ (omega arith) (span-most m s row a b e)))

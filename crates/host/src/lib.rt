@@ -1,9 +1,9 @@
 // The two functions that the loom's host, written in C, calls on its own buffers. `include/leadginger.h` declares them.
 ghost use mathlib.Core.Path.{_≡_};
-ghost use Prim.Native.Nat.{_+_, _*_, _≤_};
+ghost use Prim.Native.Nat.{_≤_};
 ghost use lib.ListN.{length};
 ghost use Rattle.fibonacci.specs.Calls.{longest};
-ghost use Rattle.decoder.specs.Answers.{reason};
+ghost use Rattle.decoder.specs.Answers.{reason, refusal};
 ghost use Rattle.decoder.specs.Reading.{total};
 ghost use Rattle.table_decoder.specs.Reading.{readBytes, readBytesInto};
 ghost use Rattle.host.specs.Host.{hostNumber};
@@ -11,7 +11,7 @@ ghost use Rattle.host.specs.Host.{hostNumber};
 // The host's number for an encoding that is not read.
 fn unread(r: decoder::Refusal) -> u64
     requires { ⌜ reason r .1 ≤ longest ⌝ }
-    ensures { λ n. ⌜ n ≡ reason r .0 + 32 * reason r .1 ⌝ }
+    ensures { λ n. ⌜ n ≡ hostNumber (refusal r) ⌝ }
 {
     match r {
         decoder::Refusal::Order => 1,

@@ -1,9 +1,11 @@
 -- The answers, by what the scan found; and that the two readers agree.
 use mathlib.Core.Path.{_≡_, refl, sym, ap, ap₂, _∙_}
+use mathlib.Core.Bool.{Bool}
 use mathlib.Core.List.{List, [], _∷_, _++_, flatten}
-use Prim.Native.Nat.{ℕ, _+_, _*_, _≤_, _<_}
+use Prim.Native.Nat.{ℕ, _+_, _*_, _/_, _≤_, _<_}
 use native.Mathlib.Omega.{arith}
 use native.Mathlib.Numerals.{add-one}
+use native.Mathlib.Decide.{decLe}
 use lib.Dec.{ltb}
 use lib.ListN.{length, getD, take, drop, length-append, length-take, length-drop}
 use lib.Seq.{sets, sets-eq, take-suc, take-at, drop-append-add, drop-drop}
@@ -11,11 +13,11 @@ use borrow.Author.Tests.{lt-ltb, le-ltb, ltb-false}
 use Rattle.bits.specs.Bits.{unpack}
 use Rattle.bits.proofs.Lists.{flatten-map-append}
 use Rattle.fibonacci.specs.Encoding.{numbers}
-use Rattle.fibonacci.specs.Calls.{Outcome, accepted, refused, andThen}
+use Rattle.fibonacci.specs.Calls.{Outcome, accepted, refused, check, andThen}
 use Rattle.fibonacci.proofs.Checks.{check-passed, then-passed, not-both, accepted-one, refused-same}
 use Rattle.decoder.specs.declared.Refusal.{Refusal}
 use Rattle.decoder.specs.Answers.{refusal}
-use Rattle.decoder.specs.Reading.{decode}
+use Rattle.decoder.specs.Reading.{decode, read}
 use Rattle.decoder.proofs.Decoding.{decode-is, read-parse}
 use Rattle.table_decoder.specs.declared.RowAnswer.{RowAnswer}
 use Rattle.table_decoder.specs.declared.RowAnswer.the-variants.{Row, Refused}
@@ -37,7 +39,7 @@ row-refused (refused n p) x t e = sym (refused-same (ap rowOutcome (sym t) ∙ e
 
 -- ## Numbers as bytes
 
-pub bytes-long : (row : List ℕ) → length (rowBytes row) ≡ 4 * length row
+bytes-long : (row : List ℕ) → length (rowBytes row) ≡ 4 * length row
 unfolding rowBytes flatten
 bytes-long [] = refl
 bytes-long (n ∷ row) = omega (arith, bytes-long row)
@@ -83,11 +85,29 @@ bytes-refused s before n p e = let a : refused n p ≡ readBytes s (length befor
 
 -- ## Demands 2 and 3
 
+-- four bytes for each of n numbers are there exactly where n numbers fit a fourth of the bytes
+room-bytes : (room n : ℕ) → ltb room (4 * n) ≡ ltb (room / 4) n
+room-bytes room n =
+    elim (decLe (4 * n) room) [
+      | yes h ↦ le-ltb room (4 * n) h ∙ sym (le-ltb (room / 4) n (omega arith))
+      | no h ↦ lt-ltb room (4 * n) (omega arith) ∙ sym (lt-ltb (room / 4) n (omega arith))
+    ]
+
+bytes-read : (s : List ℕ) (room : ℕ) → readBytes s room ≡ read 3 s (room / 4)
+unfolding readBytes read
+bytes-read s room = by (decode 3 s)
+  where
+    by : (d : Outcome (List ℕ))
+        → andThen d (λ row. check 5 0 (ltb room (4 * length row)) (accepted (length row))) ≡ andThen d (λ row. check 5 0 (ltb (room / 4) (length row)) (accepted (length row)))
+    by (accepted row) = ap (λ (t : Bool). check 5 0 t (accepted (length row))) (room-bytes room (length row))
+    by (refused n p) = refl
+
 pub two-readers : TwoReaders
 unfolding readBytes
 two-readers =
     record {
-      agree = λ s before a b out out' p q. (p .0 ∙ sym (q .0), p .1 ∙ sym (q .1));
+      agree = λ s before a b after after' p q. (p .0 ∙ sym (q .0), p .1 ∙ sym (q .1));
+      agree-bytes = bytes-read;
       returns-parse = read-parse 3;
       returns-bytes = λ s before count e.
           let t = then-passed (decode 3 s) _ count e in

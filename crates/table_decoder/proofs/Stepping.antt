@@ -3,7 +3,7 @@ use mathlib.Core.Path.{_≡_, refl, sym, ap, ap₂, _∙_, subst}
 use mathlib.Core.Bool.{Bool, true, false}
 use mathlib.Core.List.{List, [], _∷_, _++_, flatten}
 use mathlib.Core.Logic.{inl, inr}
-use Prim.Native.Nat.{ℕ, zero, suc, _+_, _-_, _*_, _/_, _%_, _≤_, _<_}
+use Prim.Native.Nat.{ℕ, suc, _+_, _-_, _*_, _/_, _%_, _≤_, _<_}
 use native.Mathlib.Omega.{arith}
 use native.Mathlib.Decide.{decLe}
 use lib.ListN.{length, getD, take, drop, length-append, length-replicate}
@@ -14,7 +14,7 @@ use Rattle.bits.proofs.Bytes.{unpack-drop}
 use Rattle.fibonacci.specs.Code.{past, F, ones, runs, value, first, number}
 use Rattle.fibonacci.specs.Encoding.{parsed, IsParse, parse}
 use Rattle.fibonacci.specs.Calls.{largest}
-use Rattle.fibonacci.proofs.Runs.{lead-ones, runs-more}
+use Rattle.fibonacci.proofs.Runs.{few-ones}
 use Rattle.fibonacci.proofs.Parse.{parse-is}
 use Rattle.fibonacci.proofs.Numbers.{first-rises, value-append, number-of}
 use Rattle.byte_table.specs.Table.{one, stem, trail, after, front, byF, byF1, byF2, moved, rowOf, rowAt}
@@ -58,15 +58,6 @@ stem-trail b =
     t .1 ∙ ap (λ (k : ℕ). stem b ++ ones k) k
 
 -- ## A row
-
--- so many ones, and no m in a row
-few-ones : (m k : ℕ) → 1 ≤ m → runs m (ones k) ≡ 0 → k < m
-few-ones m zero h e = h
-few-ones m (suc k) h e =
-    elim (decLe m (suc k)) [
-      | yes l ↦ absurd (omega (arith, runs-more m (ones k) (omega (arith, lead-ones k))))
-      | no l ↦ omega arith
-    ]
 
 pub trail-few : (b r : List Bool) (ws : List (List Bool)) → parse 3 b ≡ parsed ws r → trail r < 3
 trail-few b r ws e =

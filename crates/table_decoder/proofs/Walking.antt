@@ -67,12 +67,12 @@ shut-parse (parsed (w ∷ ws) r) e = (w, ws, refl)
 
 -- ## What the loop keeps
 
-marks-zero : (run : ℕ) {marks : ℕ} → marks ≡ 256 * run → eqb marks 0 ≡ eqb run 0
-marks-zero zero {marks} e = ap (λ (n : ℕ). eqb n 0) e
-marks-zero (suc run) {marks} e = ne-eqb marks 0 (λ z. omega arith) ∙ sym (ne-eqb (suc run) 0 (λ z. omega arith))
+state-zero : (run : ℕ) {state : ℕ} → state ≡ 256 * run → eqb state 0 ≡ eqb run 0
+state-zero zero {state} e = ap (λ (n : ℕ). eqb n 0) e
+state-zero (suc run) {state} e = ne-eqb state 0 (λ z. omega arith) ∙ sym (ne-eqb (suc run) 0 (λ z. omega arith))
 
 -- After i bytes: the numbers that ended are legal and stored, and what is pending is known by its length and value and by its ones, 256 for each
-pub record Walked (s : List ℕ) (i : ℕ) (row : List ℕ) (count len val marks : ℕ) : Type 0 where
+pub record Walked (s : List ℕ) (i : ℕ) (row : List ℕ) (count len val state : ℕ) : Type 0 where
   pub words : List (List Bool)
   pub stem : List Bool
   pub run : ℕ
@@ -85,7 +85,7 @@ pub record Walked (s : List ℕ) (i : ℕ) (row : List ℕ) (count len val marks
   pub pending : Pending stem len val
   pub held : len ≤ 37
   pub small : val ≤ 2 ^ 43 * i
-  pub marked : marks ≡ 256 * run
+  pub at : state ≡ 256 * run
 
 pub walked-start : (s row : List ℕ) → length row ≡ 4098 → Walked s 0 row 0 0 0 0
 walked-start s row h =
@@ -102,21 +102,21 @@ walked-start s row h =
       pending = pending-none;
       held = omega arith;
       small = omega arith;
-      marked = refl;
+      at = refl;
     }
 
-module _ {s : List ℕ} {i : ℕ} {row : List ℕ} {count len val marks : ℕ} (k : Walked s i row count len val marks) where
+module _ {s : List ℕ} {i : ℕ} {row : List ℕ} {count len val state : ℕ} (k : Walked s i row count len val state) where
   abbrev done : List ℕ
   done = map (number 3) (k .words)
 
   done-long : length done ≡ count
   done-long = length-map (k .words) (number 3) ∙ k .many
 
-  pub walked-marks : marks ≤ 512
-  walked-marks = omega (arith, k .marked, k .reached .few)
+  pub walked-state : state ≤ 512
+  walked-state = omega (arith, k .at, k .reached .few)
 
   -- a step: the byte, its row r, and what the row's bits are worth after those that are pending
-  module _ (h : i < length s) (byte : getD s i 0 < 256) (r : Row) (row-is : r ≡ rowAt (marks + getD s i 0)) (few : Small r)
+  module _ (h : i < length s) (byte : getD s i 0 < 256) (r : Row) (row-is : r ≡ rowAt (state + getD s i 0)) (few : Small r)
       (v : ℕ) (worth : v ≡ moved len (r .x) (r .y) (r .z)) where
     x : List Bool
     x = wordBits 8 (getD s i 0)
@@ -130,7 +130,7 @@ module _ {s : List ℕ} {i : ℕ} {row : List ℕ} {count len val marks : ℕ} (
 
     row-of : r ≡ rowOf p
     unfolding p
-    row-of = row-is ∙ ap (λ (m : ℕ). rowAt (m + getD s i 0)) (k .marked) ∙ row-after (k .run) (getD s i 0) byte
+    row-of = row-is ∙ ap (λ (m : ℕ). rowAt (m + getD s i 0)) (k .at) ∙ row-after (k .run) (getD s i 0) byte
 
     -- the pending bits with the row's
     grown : (q : List Bool) → r .len ≡ length q → r .x ≡ byF q → r .y ≡ byF1 q + byF2 q → r .z ≡ byF1 q → Pending (k .stem ++ q) (len + r .len) (val + v)
@@ -161,7 +161,7 @@ module _ {s : List ℕ} {i : ℕ} {row : List ℕ} {count len val marks : ℕ} (
               (grown q (ap (λ (r : Row). r .len) f) (ap (λ (r : Row). r .x) f) (ap (λ (r : Row). r .y) f) (ap (λ (r : Row). r .z) f)) short long;
           held = elim (decLe 37 (len + r .len)) [ yes l ↦ omega (arith, long l) | no l ↦ omega (arith, short (omega arith)) ];
           small = omega (arith, k .small);
-          marked = ap (λ (r : Row). r .next) f;
+          at = ap (λ (r : Row). r .next) f;
         }
 
     -- a codeword ends
@@ -290,7 +290,7 @@ module _ {s : List ℕ} {i : ℕ} {row : List ℕ} {count len val marks : ℕ} (
                     (pending-left (stem (rest p)) (omega (arith, ap (λ (r : Row). r .left) row-cut, few .7))));
                 held = omega (arith, few .7);
                 small = omega (arith, few .8);
-                marked = ap (λ (r : Row). r .next) row-cut;
+                at = ap (λ (r : Row). r .next) row-cut;
               }
 
   -- the bytes are all read, and the pending bits are the rest
@@ -301,16 +301,16 @@ module _ {s : List ℕ} {i : ℕ} {row : List ℕ} {count len val marks : ℕ} (
     far : 8 ≤ len → 8 ≤ length (k .stem)
     far l = elim (decLe 37 len) [ yes f ↦ omega (arith, k .pending .far f) | no f ↦ omega (arith, k .pending .near (omega arith) .0) ]
 
-    -- the ones are none exactly where their marks are
-    marks-none : Padding len val marks ≡ Padding len val (k .run)
-    marks-none = ap (λ (t : Bool). ltb len 8 && (eqb val 0 && t)) (marks-zero (k .run) (k .marked))
+    -- there are no ones exactly where the state is 0
+    state-none : Padding len val state ≡ Padding len val (k .run)
+    state-none = ap (λ (t : Bool). ltb len 8 && (eqb val 0 && t)) (state-zero (k .run) (k .at))
 
-    pub walked-padding : Padding len val marks ≡ true → (contents largest 3 (unpack s) ≡ accepted done) × (take count row ≡ done) × (length done ≡ count)
+    pub walked-padding : Padding len val state ≡ true → (contents largest 3 (unpack s) ≡ accepted done) × (take count row ≡ done) × (length done ≡ count)
     walked-padding e =
-        let t = padding-is 3 (k .stem) len val (k .run) (omega arith) (λ l. k .pending .near (omega arith)) far (sym marks-none ∙ e) in
+        let t = padding-is 3 (k .stem) len val (k .run) (omega arith) (λ l. k .pending .near (omega arith)) far (sym state-none ∙ e) in
         (contents-good largest 3 (unpack s) done (k .legal) (k .words) _ rest-is refl (omega (arith, done-long, k .most)) (t .0) (t .1), k .stored, done-long)
 
-    pub walked-rest : Padding len val marks ≡ false → contents largest 3 (unpack s) ≡ refused 6 0
+    pub walked-rest : Padding len val state ≡ false → contents largest 3 (unpack s) ≡ refused 6 0
     walked-rest e =
         contents-rest largest 3 (unpack s) done (k .legal) (k .words) _ rest-is refl (omega (arith, done-long, k .most))
-        (padding-not 3 (k .stem) len val (k .run) (omega arith) (λ l. k .pending .near (omega arith)) far (sym marks-none ∙ e))
+        (padding-not 3 (k .stem) len val (k .run) (omega arith) (λ l. k .pending .near (omega arith)) far (sym state-none ∙ e))

@@ -1,25 +1,23 @@
 -- What demands 2 and 3 (paper 00) say of the byte reader beside the bit reader.
 use mathlib.Core.Path.{_≡_}
 use mathlib.Core.List.{List, _++_}
-use Prim.Native.Nat.{ℕ, _*_}
+use Prim.Native.Nat.{ℕ, _*_, _/_}
 use lib.ListN.{length, drop}
 use Rattle.bits.specs.Bits.{unpack}
 use Rattle.fibonacci.specs.Encoding.{numbers}
 use Rattle.fibonacci.specs.Calls.{accepted}
 use Rattle.decoder.specs.declared.ReadAnswer.{ReadAnswer}
-use Rattle.decoder.specs.Answers.{readOutcome}
+use Rattle.decoder.specs.Answers.{readOutcome, ReadPromise}
 use Rattle.decoder.specs.Reading.{read, readInto}
 use Rattle.decoder.specs.Demand.{ReturnsParse}
 use Rattle.table_decoder.specs.Reading.{rowBytes, readBytes, readBytesInto}
 
--- What `decoder::read`, with order 3, and `table_decoder::read` both promise of their answer and of the output afterwards
-abbrev pub Promise : List ℕ → List ℕ → ReadAnswer → List ℕ → Type 0
-Promise s before answer out = (readOutcome answer ≡ read 3 s (length before)) × (out ≡ readInto 3 s before)
-
 pub record TwoReaders : Type 0 where
-  -- The bit reader and the byte reader agree wherever both apply
-  pub agree : (s before : List ℕ) (a b : ReadAnswer) (out out' : List ℕ) → Promise s before a out → Promise s before b out'
-      → (readOutcome a ≡ readOutcome b) × (out ≡ out')
+  -- The bit reader and the byte reader agree wherever both apply: `ReadPromise 3` is what `decoder::read`, asked for order 3, and `table_decoder::read` promise
+  pub agree : (s before : List ℕ) (a b : ReadAnswer) (after after' : List ℕ) → ReadPromise 3 s before a after → ReadPromise 3 s before b after'
+      → (readOutcome a ≡ readOutcome b) × (after ≡ after')
+  -- Into bytes the answer is the same, with four bytes for each number
+  pub agree-bytes : (s : List ℕ) (room : ℕ) → readBytes s room ≡ read 3 s (room / 4)
   -- Where the byte reader accepts, it returns exactly the numbers of the parse of all the bits, and their count; into bytes too
   pub returns-parse : ReturnsParse 3 (read 3) (readInto 3)
   pub returns-bytes : (s before : List ℕ) (count : ℕ) → readBytes s (length before) ≡ accepted count

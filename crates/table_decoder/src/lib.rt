@@ -6,15 +6,16 @@ ghost use lib.ListN.{length, take, drop};
 ghost use lib.Seq.{sets};
 ghost use Rattle.bits.specs.Bits.{unpack};
 ghost use Rattle.fibonacci.specs.Calls.{accepted, andThen, largest, mostBytes};
-ghost use Rattle.decoder.specs.Reading.{contents, decode, read, readInto};
-ghost use Rattle.decoder.specs.Answers.{readOutcome};
+ghost use Rattle.decoder.specs.Reading.{contents, decode};
+ghost use Rattle.decoder.specs.Answers.{readOutcome, ReadPromise};
 ghost use Rattle.table_decoder.specs.Reading.{numberBytes, rowBytes, readBytes, readBytesInto};
 ghost use Rattle.table_decoder.specs.Answers.{rowOutcome, Begins, Tables};
 
-// A row has at most 4,096 numbers, and a byte may end two more codewords after the one that is counted.
+// The first number that a byte ends goes to place 4,095 at most, and two more may follow it.
 const ROOM: usize = 4098;
 
-pub enum RowAnswer {
+// What the scan answers.
+enum RowAnswer {
     // How many numbers the row has.
     Row(usize),
     Refused(decoder::Refusal),
@@ -37,7 +38,8 @@ fn held(len: usize) -> usize
     if len < 37 { len } else { 37 }
 }
 
-// The scan after the check of the length, byte by byte. Pending are `len` bits, the last of them a zero, whose value is `val`, and then a one for each 256 in `ones`.
+// The scan after the check of the length, byte by byte. Pending are `len` bits up to a zero, whose value is `val`, or at least so many where `len` is 37, and
+// then as many ones as `state` has 256s: the rows for the next byte begin there.
 fn walk(
     heads: &[u32; 768],
     tails: &[u32; 768],
@@ -52,12 +54,12 @@ fn walk(
     let mut count: usize = 0;
     let mut len: usize = 0;
     let mut val: u64 = 0;
-    let mut ones: usize = 0;
+    let mut state: usize = 0;
     for i in 0..s.len() {
-        let r = byte_table::look_up(heads, tails, ones + s[i] as usize);
+        let r = byte_table::look_up(heads, tails, state + s[i] as usize);
         let end = len + r.len;
         let sum = val + byte_table::moved(positions, len, r.x, r.y, r.z);
-        ones = r.next;
+        state = r.next;
         if r.count == 0 {
             len = held(end);
             val = sum;
@@ -78,7 +80,7 @@ fn walk(
             val = r.val;
         }
     }
-    if !decoder::is_padding(len, val, ones) {
+    if !decoder::is_padding(len, val, state) {
         return RowAnswer::Refused(decoder::Refusal::Rest);
     }
     RowAnswer::Row(count)
@@ -101,7 +103,7 @@ fn scan_into(s: &[u8], row: &mut [u32; ROOM]) -> RowAnswer
 
 // Reads an encoding of order 3. The row goes to a list of its own first, as a refusal must leave the output as it was.
 pub fn read(s: &[u8], out: &mut [u32]) -> decoder::ReadAnswer
-    ensures { λ r. ⌜ (readOutcome r ≡ read 3 (now (s .entry)) (length (now (out .entry)))) × (now (out .exit) ≡ readInto 3 (now (s .entry)) (now (out .entry))) ⌝ }
+    ensures { λ r. ⌜ ReadPromise 3 (now (s .entry)) (now (out .entry)) r (now (out .exit)) ⌝ }
 {
     let mut row: [u32; ROOM] = [0; ROOM];
     let scanned = scan_into(s, &mut row);

@@ -7,7 +7,7 @@ use Rattle.fibonacci.specs.Calls.{accepted, longest}
 use Rattle.decoder.specs.declared.Found.{Found}
 use Rattle.decoder.specs.Reading.{decode}
 use Rattle.decoder.specs.Answers.{refusal, found}
-use Rattle.decoder.proofs.Decoding.{scan-row, scan-refused, repeated-fits, repeated-sum, repeated-none, repeated-more, repeated-refused}
+use Rattle.decoder.proofs.Decoding.{scan-row, scan-refused, span-most, repeated-sum, repeated-none, repeated-more, repeated-refused}
 use borrow.Author.Needs.{needs}
 use Rattle.decoder.proofs.repeated_total.Statement.{statement}
 use Rattle.decoder.proofs.repeated_total.Tie as tie
@@ -46,7 +46,7 @@ mul-t9 : tie.Need-mul-t9
 mul-t9 c =
     let r = row-of (c .before .before .before .before) in
     let a = c .before .before .before .before .before .before .before .before .args in
-    omega (arith, mul-le-mul (c .before .if2 .left) (repeated-fits _ _ (r .0) 0 (r .1)), ap (λ (f : Found). a .repeats * f .total) (r .2))
+    omega (arith, mul-le-mul (c .before .if2 .left) (span-most _ _ (r .0) 0 longest (r .1)), ap (λ (f : Found). a .repeats * f .total) (r .2))
 
 enum-known-scanned-2 : tie.Need-enum-known-scanned-2
 enum-known-scanned-2 c = search needs

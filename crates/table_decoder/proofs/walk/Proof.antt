@@ -10,16 +10,16 @@ use borrow.Author.Tests.{not-true, not-false}
 use Rattle.fibonacci.specs.Calls.{accepted, isNumber, largest}
 use Rattle.fibonacci.proofs.Checks.{number-is}
 use Rattle.byte_table.specs.Table.{moved}
-use Rattle.table_decoder.proofs.Walking.{Walked, walked-start, walked-marks, walked-open, walked-many, walked-large, walked-past, walked-shut, walked-padding, walked-rest}
+use Rattle.table_decoder.proofs.Walking.{Walked, walked-start, walked-state, walked-open, walked-many, walked-large, walked-past, walked-shut, walked-padding, walked-rest}
 use Rattle.table_decoder.proofs.walk.Statement.{statement}
 use Rattle.table_decoder.proofs.walk.Tie as tie
 
 abbrev Inv-loop : tie.InvT-loop
-Inv-loop heads tails positions firsts s row₀ count₀ len₀ val₀ ones₀ i₀ i-end row count len val ones i =
-    (i ≤ i-end) × (i-end ≡ length s) × Walked s i row count len val ones
+Inv-loop heads tails positions firsts s row₀ count₀ len₀ val₀ state₀ i₀ i-end row count len val state i =
+    (i ≤ i-end) × (i-end ≡ length s) × Walked s i row count len val state
 
 abbrev μ-loop : tie.MeasureT-loop
-μ-loop heads tails positions firsts s row₀ count₀ len₀ val₀ ones₀ i₀ i-end row count len val ones i = i-end - i
+μ-loop heads tails positions firsts s row₀ count₀ len₀ val₀ state₀ i₀ i-end row count len val state i = i-end - i
 
 -- the byte is one
 byte : (c : tie.After-shared-slice-known2 Inv-loop μ-loop)
@@ -40,12 +40,12 @@ cast-look-up : tie.Need-cast-look-up Inv-loop μ-loop
 cast-look-up c = omega (arith, byte c)
 
 add-look-up : tie.Need-add-look-up Inv-loop μ-loop
-add-look-up c = omega (arith, byte c, walked-marks (c .before .before .loop .inv .2))
+add-look-up c = omega (arith, byte c, walked-state (c .before .before .loop .inv .2))
 
 look-up-requires : tie.Need-look-up-requires Inv-loop μ-loop
 look-up-requires c κs =
     let t = c .before .before .before .before .pre .0 in
-    (t .heads-are, t .tails-are, omega (arith, byte c, walked-marks (c .before .before .loop .inv .2)))
+    (t .heads-are, t .tails-are, omega (arith, byte c, walked-state (c .before .before .loop .inv .2)))
 
 add-end : tie.Need-add-end Inv-loop μ-loop
 add-end c = omega (arith, c .before .before .before .before .loop .inv .2 .held, c .before .look-up .ensures .1 .1)
