@@ -16,7 +16,8 @@
    a refusal writes to no buffer.
 
    The caller vouches for the buffers: a pointer is not null, even where its length is 0 (as the data() of an empty std::vector may be),
-   and has as many bytes behind it as its length says; the two buffers of leadginger_read do not overlap. A call takes some 25 KB of the stack. */
+   and has as many bytes behind it as its length says; the two buffers of leadginger_read do not overlap. The archive to link is for Linux on
+   x86-64, and leadginger_read takes some 25 KB of the stack. */
 #ifndef LEADGINGER_H
 #define LEADGINGER_H
 
