@@ -1,4 +1,4 @@
--- The table of the byte reader (paper 01, "The byte reader"; source 001, section 3.3.2): 768 rows, one for each byte after 0, 1 or 2 trailing ones. A row
+-- The table of the table decoder (paper 01: the byte reader; source 001, section 3.3.2): 768 rows, one for each byte after 0, 1 or 2 trailing ones. A row
 -- follows from the parse of those ones and the byte's bits, by the code of order 3.
 use mathlib.Core.Bool.{Bool, true, false}
 use mathlib.Core.List.{List, [], _∷_, _++_, map}

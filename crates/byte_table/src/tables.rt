@@ -1,4 +1,4 @@
-// The constant tables of the byte reader. The contracts of `heads`, `tails` and `positions` say what they hold.
+// The constant tables of the table decoder. The contracts of `heads`, `tails` and `positions` say what they hold.
 
 // The first words of the 768 rows: what finishes the pending codeword.
 pub const HEADS: [u32; 768] = [

@@ -54,7 +54,7 @@ pub fn read(name: &[u8], order: usize, s: &[u8], out: &mut [u32]) {
     end();
 }
 
-// The byte reader, whose order is 3.
+// The table decoder, whose order is 3.
 fn read_by_bytes(name: &[u8], s: &[u8], out: &mut [u32]) {
     text(name);
     text(b": read by bytes");
@@ -145,7 +145,7 @@ fn read_by_bytes_into(name: &[u8], s: &[u8], room: usize) {
     }
 }
 
-// Reading into a fresh list of so many numbers; in order 3 with the byte reader too.
+// Reading into a fresh list of so many numbers; in order 3 with the table decoder too.
 pub fn read_into(name: &[u8], order: usize, s: &[u8], room: usize) {
     let mut out = [7777777u32; 4100];
     if room <= 4100 {

@@ -22,7 +22,7 @@ fn unread(r: decoder::Refusal) -> u64
     }
 }
 
-// The byte reader: the encoding `s` of order 3, each number of its row into four bytes of `out`, the lowest first.
+// The table decoder: the encoding `s` of order 3, each number of its row into four bytes of `out`, the lowest first.
 #[no_mangle]
 pub extern "C" fn leadginger_read(s: &[u8], out: &mut [u8]) -> u64
     ensures { λ r. ⌜ (r ≡ hostNumber (readBytes (now (s .entry)) (length (now (out .entry))))) × (now (out .exit) ≡ readBytesInto (now (s .entry)) (now (out .entry))) ⌝ }

@@ -1,4 +1,4 @@
--- Reading an encoding of order 3 for a host that takes its numbers as bytes (paper 01, "The byte reader"). Into numbers, the byte reader's promise is that of
+-- Reading an encoding of order 3 for a host that takes its numbers as bytes (paper 01, "The byte reader"). Into numbers, the table decoder's promise is that of
 -- reading with order 3, `read 3` and `readInto 3`: check 1 passes.
 use mathlib.Core.List.{List, [], _∷_, map, flatten}
 use Prim.Native.Nat.{ℕ, _*_, _/_, _%_}

@@ -1,7 +1,6 @@
 use mathlib.Core.Path.{sym, ap, _∙_, subst}
 use Prim.Native.Nat.{_≤_}
 use native.Mathlib.Omega.{arith}
-use lib.ListN.{length}
 use Rattle.fibonacci.specs.Calls.{longest}
 use Rattle.decoder.specs.Answers.{readOutcome}
 use Rattle.host.specs.Host.{hostNumber}
@@ -12,7 +11,7 @@ use Rattle.host.proofs.leadginger_read.Tie as tie
 
 -- what was answered fits
 fits : (c : tie.After-read-bytes) → Fits (λ n. n ≤ longest) (readOutcome (c .read-bytes .result))
-fits c = let a = c .before .before .before .before .args in subst (Fits _) (sym (c .read-bytes .ensures .0)) (bytes-fit (a .s .now) (length (a .out .now)))
+fits c = subst (Fits _) (sym (c .read-bytes .ensures .0)) (bytes-fit _ _)
 
 read-bytes-requires : tie.Need-read-bytes-requires
 read-bytes-requires c κs = search needs

@@ -11,7 +11,7 @@ use Rattle.host.proofs.leadginger_total.Tie as tie
 
 -- what was answered fits
 fits : (c : tie.After-total) → Fits (λ x. x ≤ largest * longest) (totalOutcome (c .total .result))
-fits c = let a = c .before .before .args in subst (Fits _) (sym (c .total .ensures)) (total-fits (a .order) (a .s .now) (a .a) (a .b))
+fits c = subst (Fits _) (sym (c .total .ensures)) (total-fits _ _ _ _)
 
 total-requires : tie.Need-total-requires
 total-requires c κs = search needs
