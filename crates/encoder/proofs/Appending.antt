@@ -20,8 +20,8 @@ use Rattle.fibonacci.proofs.Checks.{is-order, number-is, refused-same}
 use Rattle.fibonacci.proofs.Rows.{numbers-bits}
 use Rattle.decoder.specs.Reading.{contents, decode}
 use Rattle.decoder.proofs.Decoding.{decode-long, decode-contents, decode-is}
+use Rattle.codewords.proofs.Codewords.{stem-long}
 use Rattle.encoder.specs.Writing.{append, appendFull, appendInto}
-use Rattle.encoder.proofs.Codewords.{stem-long}
 use Rattle.encoder.proofs.Rows.{bits-snoc}
 
 -- the call answers so, for a full row or not, and leaves the buffer as the list after

@@ -1,4 +1,3 @@
-pub mod Codewords
 pub mod Rows
 pub mod Writing
 pub mod Appending

@@ -15,7 +15,7 @@ use Rattle.fibonacci.specs.Calls.{Outcome, accepted, refused, isNumber, Legal, 
 use Rattle.fibonacci.specs.Tables.{Order}
 use Rattle.fibonacci.proofs.Rows.{bits-append}
 use Rattle.fibonacci.proofs.Checks.{number-is}
-use Rattle.encoder.proofs.Codewords.{stem-long}
+use Rattle.codewords.proofs.Codewords.{stem-long}
 
 pub legal-at : (limit : ℕ) (row : List ℕ) (i : ℕ) → Legal limit row → i < length row → isNumber limit (getD row i 0) ≡ true
 legal-at limit [] i a h = absurd (omega arith)

@@ -1,9 +1,9 @@
 // Writing a row as its encoding of order 2 to 6, and appending a number to an encoding.
 ghost use mathlib.Core.Path.{_≡_};
-ghost use Prim.Native.Nat.{_+_, _*_, _^_, _≤_, _<_};
+ghost use Prim.Native.Nat.{_+_, _*_, _≤_, _<_};
 ghost use lib.ListN.{length};
-ghost use Rattle.bits.specs.Bits.{wordBits, unpack, byteCount, putAt};
-ghost use Rattle.fibonacci.specs.Code.{F, first, size, codeword};
+ghost use Rattle.bits.specs.Bits.{unpack, byteCount, putAt};
+ghost use Rattle.fibonacci.specs.Code.{F, first, codeword};
 ghost use Rattle.fibonacci.specs.Encoding.{rowBits};
 ghost use Rattle.fibonacci.specs.Tables.{Order, tableRow};
 ghost use Rattle.fibonacci.specs.Calls.{accepted, Legal, largest, longest, mostBytes, checkEach};
@@ -42,38 +42,6 @@ enum Measured {
     Fault(usize),
 }
 
-// How many bits of the codeword of n stand before its last ones: the largest d whose first number is at most n.
-fn stem(firsts: &[u32; 47], order: usize, n: u64) -> usize
-    requires { ⌜ Order order × (now firsts ≡ tableRow (first order)) × (1 ≤ n) × (n ≤ largest) ⌝ }
-    ensures { λ r. ⌜ r ≡ size order n n 0 ⌝ }
-{
-    let mut d: usize = 0;
-    loop {
-        let next = fibonacci::first_number(firsts, order, d + 1);
-        if next == 0 || n < next {
-            return d;
-        }
-        d += 1;
-    }
-}
-
-// The codeword of n as a word, where d of its bits stand before its last ones: those ones, and in front of them the digits, the highest first.
-fn word(positions: &[u32; 47], firsts: &[u32; 47], order: usize, n: u64, d: usize) -> u64
-    requires { ⌜ Order order × (now positions ≡ tableRow (F order)) × (now firsts ≡ tableRow (first order)) × (1 ≤ n) × (n ≤ largest) × (d ≡ size order n n 0) ⌝ }
-    ensures { λ r. ⌜ (wordBits (d + order) r ≡ codeword order n) × (r < 2 ^ (d + order)) ⌝ }
-{
-    let mut w: u64 = (1 << order) - 1;
-    let mut left = n - fibonacci::first_number(firsts, order, d);
-    for i in 0..d {
-        let f = fibonacci::position(positions, order, d - i);
-        if f <= left {
-            left -= f;
-            w += 1 << (order + i);
-        }
-    }
-    w
-}
-
 // The codeword writer: the codeword of n after the first o bits of a part of a buffer, then zeros to the end of the byte; the result is its length.
 // Whoever writes has seen that it fits.
 fn put_codeword(
@@ -87,8 +55,8 @@ fn put_codeword(
     requires { ⌜ Order order × (now positions ≡ tableRow (F order)) × (now firsts ≡ tableRow (first order)) × (1 ≤ n) × (n ≤ largest) × (o < 8) × (o + length (codeword order n) ≤ 8 * length (now part)) ⌝ }
     ensures { λ r. ⌜ (r ≡ length (codeword order n)) × (unpack (now (part .exit)) ≡ putAt o (codeword order n) (unpack (now (part .entry)))) ⌝ }
 {
-    let d = stem(firsts, order, n);
-    let w = word(positions, firsts, order, n, d);
+    let d = codewords::stem(firsts, order, n);
+    let w = codewords::word(positions, firsts, order, n, d);
     bits::put_word(part, o, w, d + order);
     d + order
 }
@@ -104,7 +72,7 @@ fn measure(firsts: &[u32; 47], order: usize, row: &[u32], limit: u64) -> Measure
         if !fibonacci::is_number(n, limit) {
             return Measured::Fault(i);
         }
-        bits += stem(firsts, order, n) + order;
+        bits += codewords::stem(firsts, order, n) + order;
     }
     Measured::Bits(bits)
 }
@@ -161,7 +129,7 @@ fn extend(order: usize, buf: &mut [u8], bits: usize, n: u64) -> usize
     ensures { λ r. ⌜ (byteCount (bits + length (codeword order n)) ≤ length (now (buf .entry)) → (r ≡ byteCount (bits + length (codeword order n))) × (unpack (now (buf .exit)) ≡ putAt bits (codeword order n) (unpack (now (buf .entry))))) × (length (now (buf .entry)) < byteCount (bits + length (codeword order n)) → (r ≡ 0) × (now (buf .exit) ≡ now (buf .entry))) ⌝ }
 {
     let firsts = fibonacci::first_numbers(order);
-    let bytes = (bits + stem(&firsts, order, n) + order + 7) / 8;
+    let bytes = (bits + codewords::stem(&firsts, order, n) + order + 7) / 8;
     if buf.len() < bytes {
         return 0;
     }

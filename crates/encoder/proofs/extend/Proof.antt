@@ -5,7 +5,7 @@ use lib.ListN.{length}
 use borrow.Author.Needs.{needs}
 use Rattle.bits.proofs.Put.{put-part}
 use Rattle.fibonacci.specs.Code.{codeword}
-use Rattle.encoder.proofs.Codewords.{stem-long}
+use Rattle.codewords.proofs.Codewords.{stem-long}
 use Rattle.encoder.proofs.extend.Statement.{statement}
 use Rattle.encoder.proofs.extend.Tie as tie
 

@@ -4,7 +4,7 @@ use mathlib.Core.List.{List}
 use native.Mathlib.Omega.{arith}
 use borrow.Author.Needs.{needs}
 use Rattle.bits.specs.Bits.{unpack, putAt}
-use Rattle.encoder.proofs.Codewords.{stem-long}
+use Rattle.codewords.proofs.Codewords.{stem-long}
 use Rattle.encoder.proofs.put_codeword.Statement.{statement}
 use Rattle.encoder.proofs.put_codeword.Tie as tie
 

@@ -4,9 +4,9 @@ use Prim.Native.Nat.{ℕ, _+_, _-_, _≤_, _<_}
 use native.Mathlib.Omega.{arith}
 use lib.Pow.{pow-pos, pow-mono}
 use borrow.Author.Needs.{needs}
-use Rattle.encoder.proofs.Codewords.{stem-long, shifted-one, Built, position-legal, built-start, built-one, built-zero, built-end}
-use Rattle.encoder.proofs.word.Statement.{statement}
-use Rattle.encoder.proofs.word.Tie as tie
+use Rattle.codewords.proofs.Codewords.{stem-long, shifted-one, Built, position-legal, built-start, built-one, built-zero, built-end}
+use Rattle.codewords.proofs.word.Statement.{statement}
+use Rattle.codewords.proofs.word.Tie as tie
 
 abbrev Inv-loop : tie.InvT-loop
 Inv-loop positions firsts order n d w₀ left₀ i₀ w left i = (i ≤ d) × (d < 47) × Built order n d i left w

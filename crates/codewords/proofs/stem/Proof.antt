@@ -4,9 +4,9 @@ use native.Mathlib.Omega.{arith}
 use borrow.Author.Needs.{needs}
 use borrow.Author.Tests.{ltb-true, ltb-false}
 use Rattle.fibonacci.specs.Code.{first}
-use Rattle.encoder.proofs.Codewords.{stem-end, stem-more}
-use Rattle.encoder.proofs.stem.Statement.{statement}
-use Rattle.encoder.proofs.stem.Tie as tie
+use Rattle.codewords.proofs.Codewords.{stem-end, stem-more}
+use Rattle.codewords.proofs.stem.Statement.{statement}
+use Rattle.codewords.proofs.stem.Tie as tie
 
 abbrev Inv-loop : tie.InvT-loop
 Inv-loop firsts order n d₀ d = (d < 47) × (first order d ≤ n)
