@@ -95,6 +95,13 @@ count-le v (a ∷ b) = omega (arith, count-le v b, worth-le (is v a))
     worth-le false = omega arith
     worth-le true = omega arith
 
+-- the ones and the zeros
+pub count-both : (b : List Bool) → count true b + count false b ≡ length b
+unfolding count
+count-both [] = refl
+count-both (true ∷ b) = omega (arith, count-both b)
+count-both (false ∷ b) = omega (arith, count-both b)
+
 -- the ones of q bytes are few
 pub count-few : (s : List ℕ) (q : ℕ) → count true (unpack (take q s)) ≤ 8 * q
 count-few s q = omega (arith, count-le true (unpack (take q s)), unpack-length (take q s), length-take q s)

@@ -4,3 +4,4 @@ pub mod Bytes
 pub mod Packing
 pub mod Put
 pub mod Count
+pub mod Place

@@ -73,3 +73,9 @@ is false a = not a
 unfoldable pub count : Bool → List Bool → ℕ
 count v [] = 0
 count v (a ∷ b) = worth (is v a) + count v b
+
+-- The place of the bit v that has j others of its kind before it; where there is none, how many bits there are
+unfoldable pub place : Bool → ℕ → List Bool → ℕ
+place v j [] = 0
+place v zero (a ∷ b) = elim (is v a) [ true ↦ 0 | false ↦ suc (place v zero b) ]
+place v (suc j) (a ∷ b) = suc (elim (is v a) [ true ↦ place v j b | false ↦ place v (suc j) b ])

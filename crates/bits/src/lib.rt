@@ -2,9 +2,10 @@
 ghost use mathlib.Core.Path.{_≡_};
 ghost use mathlib.Core.Bool.{true, false};
 ghost use mathlib.Core.List.{_++_};
+ghost use mathlib.Core.Logic.{_⊎_};
 ghost use Prim.Native.Nat.{_+_, _-_, _*_, _/_, _^_, _≤_, _<_};
 ghost use lib.ListN.{length, take, drop, getD, set};
-ghost use Rattle.bits.specs.Bits.{wordBits, unpack, bytesOf, putAt, count};
+ghost use Rattle.bits.specs.Bits.{wordBits, unpack, bytesOf, putAt, count, place};
 
 // Bit k of the slice; false past its end.
 pub fn bit(s: &[u8], k: usize) -> bool
@@ -138,4 +139,51 @@ pub fn ones_from(s: &[u8], from: usize, k: usize) -> usize
     ensures { λ r. ⌜ r ≡ count true (take k (drop from (unpack (now (s .entry))))) ⌝ }
 {
     ones_before(s, from + k) - ones_before(s, from)
+}
+
+// How many of the n bits from bit `at` on are v. Only the bytes that hold them are read.
+fn count_from(s: &[u8], at: usize, n: usize, v: bool) -> usize
+    requires { ⌜ (at + n ≤ 8 * length (now s)) × (at + n < 2 ^ 64) ⌝ }
+    ensures { λ r. ⌜ r ≡ count v (take n (drop at (unpack (now (s .entry))))) ⌝ }
+{
+    let a = at / 8;
+    let ones = ones_from(&s[a..], at % 8, n);
+    if v { ones } else { n - ones }
+}
+
+// How far the search for a bit has come: to bit `at` of the range, with `left` bits of its kind still to be skipped.
+struct Skipped {
+    at: usize,
+    left: usize,
+}
+
+// Skips steps of `step` bits as long as a whole step is there and the bits v in it are no more than are still to be skipped, so that the bit searched for
+// stays the same. Only `place_of` calls it; it begins at bit 0 and goes on where a call stopped.
+fn skip(s: &[u8], from: usize, k: usize, v: bool, step: usize, start: Skipped) -> Skipped
+    requires { ⌜ (from + k ≤ 8 * length (now s)) × (from + k < 2 ^ 64) × (1 ≤ step) × (start .at ≤ k) ⌝ }
+    ensures { λ r. ⌜ (r .at ≤ k) × (start .at + place v (start .left) (drop (start .at) (take k (drop from (unpack (now (s .entry)))))) ≡ r .at + place v (r .left) (drop (r .at) (take k (drop from (unpack (now (s .entry))))))) × ((k < r .at + step) ⊎ (r .left < count v (take step (drop (r .at) (take k (drop from (unpack (now (s .entry))))))))) ⌝ }
+{
+    let mut at = start.at;
+    let mut left = start.left;
+    while step <= k - at {
+        let here = count_from(s, from + at, step, v);
+        if here > left {
+            return Skipped { at, left };
+        }
+        left -= here;
+        at += step;
+    }
+    Skipped { at, left }
+}
+
+// The place of the bit v that has j others of its kind before it, among the k bits from bit `from` on; k where there is none. Steps of a word are
+// skipped first, then steps of a byte, then bits. The index shows of its range what it shows for `ones_from`.
+pub fn place_of(s: &[u8], from: usize, k: usize, v: bool, j: usize) -> usize
+    requires { ⌜ (from + k ≤ 8 * length (now s)) × (from + k < 2 ^ 64) ⌝ }
+    ensures { λ r. ⌜ r ≡ place v j (take k (drop from (unpack (now (s .entry))))) ⌝ }
+{
+    let words = skip(s, from, k, v, 64, Skipped { at: 0, left: j });
+    let bytes = skip(s, from, k, v, 8, words);
+    let bits = skip(s, from, k, v, 1, bytes);
+    bits.at
 }

@@ -36,7 +36,7 @@ entry-at f j z h = values-at (λ j. bounded (f j)) 0 47 j z h ∙ ap (λ (i : �
 -- ## Past the row
 
 -- what one computation over the orders shows
-each-order : (t : ℕ → Bool) (v : Bool) → valuesFrom t 2 5 ≡ replicate 5 v → (m : ℕ) → Order m → t m ≡ v
+pub each-order : (t : ℕ → Bool) (v : Bool) → valuesFrom t 2 5 ≡ replicate 5 v → (m : ℕ) → Order m → t m ≡ v
 each-order t v e m h =
     let k : 2 + (m - 2) ≡ m = omega arith in
     ap t (sym k) ∙ sym (values-at t 2 5 (m - 2) v (omega arith)) ∙ ap (λ (l : List Bool). getD l (m - 2) v) e
