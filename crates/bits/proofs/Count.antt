@@ -5,7 +5,7 @@ use mathlib.Core.List.{List, [], _∷_, _++_, append-nil, flatten}
 use Prim.Native.Nat.{ℕ, zero, suc, _+_, _-_, _*_, _/_, _%_, _^_, _≤_, _<_}
 use native.Mathlib.Omega.{arith}
 use native.Mathlib.Nat.{add-zero, add-mul, mul-assoc, mod-lt, mod-eq-of-lt}
-use lib.ListN.{length, getD, take, drop, length-take, length-drop}
+use lib.ListN.{length, getD, take, drop, replicate, length-take, length-drop}
 use lib.Seq.{take-add, drop-cons, getD-drop}
 use lib.Pow.{pow-pos, pow-add, shl-lt, shl-exact, mod-pow-add}
 use lib.Bits.{bitOr, or-shifted}
@@ -101,6 +101,18 @@ unfolding count
 count-both [] = refl
 count-both (true ∷ b) = omega (arith, count-both b)
 count-both (false ∷ b) = omega (arith, count-both b)
+
+-- zeros have no ones, and what has no ones is zeros
+pub zeros-none : (k : ℕ) → count true (replicate k false) ≡ 0
+unfolding count
+zeros-none zero = refl
+zeros-none (suc k) = omega (arith, zeros-none k)
+
+pub none-zeros : (b : List Bool) → count true b ≡ 0 → b ≡ replicate (length b) false
+unfolding count
+none-zeros [] e = refl
+none-zeros (false ∷ b) e = ap (λ (l : List Bool). false ∷ l) (none-zeros b (omega arith))
+none-zeros (true ∷ b) e = absurd (omega arith)
 
 -- the ones of q bytes are few
 pub count-few : (s : List ℕ) (q : ℕ) → count true (unpack (take q s)) ≤ 8 * q

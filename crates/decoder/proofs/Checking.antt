@@ -13,15 +13,11 @@ use borrow.Author.Tests.{le-leb, lt-leb, lt-ltb, eq-eqb, ltb-true, eqb-true}
 use Rattle.bits.specs.Bits.{count}
 use Rattle.bits.proofs.Count.{count-append}
 use Rattle.fibonacci.specs.Code.{ones, value, first, number}
-use Rattle.fibonacci.specs.Encoding.{All, parsed, parse, numbers}
+use Rattle.fibonacci.specs.Encoding.{parsed, parse, numbers}
 use Rattle.fibonacci.specs.Calls.{Outcome, accepted, refused, check, isNumber, Legal, largest, longest}
 use Rattle.fibonacci.proofs.Checks.{both, number-is, above-number}
 use Rattle.fibonacci.proofs.Numeration.{F-pos}
 use Rattle.decoder.specs.Reading.{checkFinished, checkRest, contents}
-
-pub all-append : {A : Type 0} (P : A → Type 0) (xs ys : List A) → All P xs → All P ys → All P (xs ++ ys)
-all-append P [] ys a b = b
-all-append P (x ∷ xs) ys a b = (a .0, all-append P xs ys (a .1) b)
 
 -- ## Pending bits at the end
 

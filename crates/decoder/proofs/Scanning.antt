@@ -18,7 +18,8 @@ use Rattle.fibonacci.proofs.Checks.{number-is}
 use Rattle.fibonacci.proofs.Rows.{numbers-bits}
 use Rattle.fibonacci.proofs.Numbers.{first-rises, value-append, number-of}
 use Rattle.decoder.proofs.Reached.{Reached, reached-start, reached-numbers, reached-zero, reached-one, reached-full, reached-end}
-use Rattle.decoder.proofs.Checking.{all-append, Padding, padding-is, padding-not, contents-many, contents-large, contents-rest, contents-good, Numbered, numbered-legal, numbered-large}
+use Rattle.fibonacci.proofs.Each.{all-append}
+use Rattle.decoder.proofs.Checking.{Padding, padding-is, padding-not, contents-many, contents-large, contents-rest, contents-good, Numbered, numbered-legal, numbered-large}
 use Rattle.decoder.specs.Answers.{found}
 use Rattle.decoder.specs.Reading.{contents}
 

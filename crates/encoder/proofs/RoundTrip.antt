@@ -10,6 +10,7 @@ use lib.Seq.{take-all, take-append-seam, drop-append-add, drop-drop}
 use Rattle.bits.specs.Bits.{Bytes, unpack, bytesOf, pack, padding, count}
 use Rattle.bits.proofs.Bytes.{unpack-length}
 use Rattle.bits.proofs.Packing.{unpack-pack, padding-below, pack-length, pack-bytes, unpack-apart}
+use Rattle.bits.proofs.Count.{zeros-none, none-zeros}
 use Rattle.fibonacci.specs.Code.{sum}
 use Rattle.fibonacci.specs.Encoding.{Positive, rowBits, encoding, rest, parse}
 use Rattle.fibonacci.specs.Tables.{Order}
@@ -30,11 +31,6 @@ positive : (row : List ℕ) → Legal largest row → Positive row
 positive [] a = tt
 positive (n ∷ row) a = (number-is largest n (a .0) .0, positive row (a .1))
 
-zeros-none : (k : ℕ) → count true (replicate k false) ≡ 0
-unfolding count
-zeros-none zero = refl
-zeros-none (suc k) = omega (arith, zeros-none k)
-
 pub decode-encoding : (m : ℕ) (row : List ℕ) → Order m → length row ≤ longest → Legal largest row → decode m (encoding m row) ≡ accepted row
 unfolding encoding
 decode-encoding m row o c a =
@@ -52,12 +48,6 @@ decode-encoding m row o c a =
     })
 
 -- ## Writing what was read
-
-none-zeros : (b : List Bool) → count true b ≡ 0 → b ≡ replicate (length b) false
-unfolding count
-none-zeros [] e = refl
-none-zeros (false ∷ b) e = ap (λ (l : List Bool). false ∷ l) (none-zeros b (omega arith))
-none-zeros (true ∷ b) e = absurd (omega arith)
 
 pub decoded-encoding : (m : ℕ) (s row : List ℕ) → Bytes s → decode m s ≡ accepted row → s ≡ encoding m row
 unfolding encoding padding

@@ -1,3 +1,4 @@
+pub mod Each
 pub mod Computed
 pub mod Runs
 pub mod Numeration

@@ -1,0 +1,111 @@
+-- What the checks of building and of the questions say.
+use mathlib.Core.Path.{_≡_, sym, _∙_}
+use mathlib.Core.Bool.{Bool, true, false, not}
+use mathlib.Core.List.{List, []}
+use Prim.Native.Nat.{ℕ, suc, _+_, _*_, _≤_, _<_, min}
+use native.Mathlib.Omega.{arith}
+use lib.Dec.{ltb, eqb}
+use lib.ListN.{length}
+use borrow.Author.Tests.{not-false, le-ltb, ltb-false, ne-eqb, eqb-true}
+use Rattle.bits.specs.Bits.{unpack, byteCount}
+use Rattle.bits.proofs.Bytes.{unpack-length}
+use Rattle.fibonacci.specs.Calls.{Outcome, accepted, refused, check, isOrder, isNumber, longest}
+use Rattle.fibonacci.specs.Code.{first}
+use Rattle.fibonacci.specs.Tables.{Order}
+use Rattle.fibonacci.proofs.Checks.{both, order-is, number-is, not-both, refused-same, check-passed}
+use Rattle.wavelet.specs.Nodes.{tree}
+use Rattle.wavelet.specs.Bitmaps.{need, isIndex}
+use Rattle.wavelet.specs.Questions.{mostAlphabet, mostIndex, checkTree, ask}
+use Rattle.wavelet.specs.Walk.{At, Low, ends, Ends, Exact}
+use Rattle.wavelet.specs.Answers.{treeRefusal}
+use Rattle.wavelet.specs.declared.Spot.{Spot}
+use Rattle.wavelet.specs.declared.Refusal.{Refusal}
+use Rattle.wavelet.specs.declared.Refusal.the-variants as refusal
+use Rattle.wavelet.specs.declared.Checked.the-variants as checked
+use Rattle.wavelet.proofs.Pruned.{stands-root}
+use Rattle.wavelet.proofs.Depth.{tree-need}
+
+-- ## Order, alphabet and length
+
+abbrev pub legal : Outcome (Unit {0})
+legal = accepted tt
+
+-- a refusal does not hang on what comes after
+refuses : {A : Type 0} (n : ℕ) (x y z : Bool) (next : Outcome A) → refused n 0 ≡ check 1 0 x (check 9 0 y (check 4 0 z legal))
+    → refused n 0 ≡ check 1 0 x (check 9 0 y (check 4 0 z next))
+refuses n true y z next e = refused-same e
+refuses n false true z next e = refused-same e
+refuses n false false true next e = refused-same e
+refuses n false false false next e = absurd (not-both e)
+
+-- what is known once they have passed
+pub record Passed (m N k : ℕ) : Type 0 where
+  pub order : isOrder m ≡ true
+  pub alphabet : isNumber mostAlphabet N ≡ true
+  pub count : k ≤ longest
+
+module _ (m N k : ℕ) where
+  pub tree-passed : checkTree m N k legal ≡ legal → Passed m N k
+  tree-passed e =
+      let o = check-passed 1 0 (not (isOrder m)) _ tt e in
+      let a = check-passed 9 0 (not (isNumber mostAlphabet N)) _ tt (o .1) in
+      let c = check-passed 4 0 (ltb longest k) _ tt (a .1) in
+      record { order = not-false _ (o .0); alphabet = not-false _ (a .0); count = ltb-false _ _ (c .0) }
+
+  -- what comes after them decides
+  pub tree-legal : {A : Type 0} → Passed m N k → (next : Outcome A) → checkTree m N k next ≡ next
+  tree-legal p next = simp (p .order, p .alphabet, le-ltb longest k (p .count))
+
+  -- or does not matter
+  pub tree-refused : {A : Type 0} (r : Refusal) → treeRefusal r ≡ checkTree m N k legal → (next : Outcome A) → treeRefusal r ≡ checkTree m N k next
+  tree-refused refusal.Order e next = refuses 1 (not (isOrder m)) (not (isNumber mostAlphabet N)) (ltb longest k) next e
+  tree-refused refusal.Alphabet e next = refuses 9 (not (isOrder m)) (not (isNumber mostAlphabet N)) (ltb longest k) next e
+  tree-refused refusal.Count e next = refuses 4 (not (isOrder m)) (not (isNumber mostAlphabet N)) (ltb longest k) next e
+
+-- ## Whether the bytes are an index
+
+module _ {m N k : ℕ} (p : Passed m N k) where
+  pub legal-order : Order m
+  legal-order = order-is m (p .order)
+
+  pub legal-alphabet : (1 ≤ N) × (N ≤ mostAlphabet)
+  legal-alphabet = number-is mostAlphabet N (p .alphabet)
+
+  -- where a walk begins
+  pub at-root : {v : Spot} → (v .depth ≡ 0) × (v .next ≡ 2) × (v .ones ≡ 0) × (v .number ≡ 1) → At m N (m + N) [] v
+  at-root {v} e = rw (e .0, e .1, e .2, e .3) (stands-root m N (omega (arith, legal-order)) (legal-alphabet .0))
+
+  pub low-root : {v : Spot} → (v .depth ≡ 0) × (v .next ≡ 2) × (v .ones ≡ 0) × (v .number ≡ 1) → Low m v
+  unfolding first
+  low-root {v} e = rw (e .0, e .1) (omega arith)
+
+  module _ (s : List ℕ) where
+    -- too many bytes
+    pub index-long : mostIndex < length s → isIndex m N k s ≡ false
+    unfolding isIndex
+    index-long h =
+        let most = tree-need m N k (unpack s) legal-order (legal-alphabet .0) (legal-alphabet .1) in
+        simp (ne-eqb (byteCount (need (tree m N) k (unpack s))) (length s) (λ e. omega (arith, most, p .count)))
+
+    -- by where the walk's bitmaps end
+    module _ {v : Spot} (root : (v .depth ≡ 0) × (v .next ≡ 2) × (v .ones ≡ 0) × (v .number ≡ 1)) (end : ℕ) (walked : Ends m N v k s 0 end) where
+      ends-need : end ≡ min (need (tree m N) k (unpack s)) (suc (length (unpack s)))
+      unfolding ends tree
+      ends-need = walked (m + N) [] (at-root root) ∙ omega arith
+
+      pub index-is : (whole : Bool) → Exact s end whole → isIndex m N k s ≡ whole
+      unfolding isIndex
+      index-is whole x = sym (x (need (tree m N) k (unpack s)) ends-need)
+
+      -- an index's bitmaps end in its bytes
+      pub index-end : isIndex m N k s ≡ true → end ≤ 8 * length s
+      unfolding isIndex
+      index-end e =
+          let c : byteCount (need (tree m N) k (unpack s)) ≡ length s = eqb-true _ _ (both (eqb (byteCount (need (tree m N) k (unpack s))) (length s)) _ e .0) in
+          omega (arith, ends-need, c, unpack-length s)
+
+    pub ask-not : {A : Type 0} (next : Outcome A) → isIndex m N k s ≡ false → refused 11 0 ≡ ask m N k s next
+    ask-not next e = sym (tree-legal m N k p _ ∙ simp e)
+
+    pub ask-next : {A : Type 0} (next : Outcome A) → isIndex m N k s ≡ true → ask m N k s next ≡ next
+    ask-next next e = tree-legal m N k p _ ∙ simp e

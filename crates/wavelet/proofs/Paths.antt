@@ -1,0 +1,50 @@
+-- Codewords at the top of a word of 32 bits.
+use mathlib.Core.Path.{_≡_, refl, sym, ap, _∙_, subst}
+use mathlib.Core.Bool.{Bool, false}
+use mathlib.Core.List.{List, [], _∷_, _++_}
+use Prim.Native.Nat.{ℕ, zero, suc, _+_, _-_, _*_, _%_, _^_, _≤_, _<_}
+use native.Mathlib.Omega.{arith}
+use lib.ListN.{getD, replicate}
+use lib.Pow.{shl-lt, shl-exact}
+use Rattle.bits.specs.Bits.{wordBits}
+use Rattle.bits.proofs.Words.{words-at, words-padded}
+use Rattle.fibonacci.specs.Code.{size, codeword}
+use Rattle.fibonacci.specs.Tables.{Order}
+use Rattle.fibonacci.proofs.Numbers.{codeword-size}
+use Rattle.wavelet.specs.Questions.{mostAlphabet}
+use Rattle.wavelet.specs.Walk.{Path}
+use Rattle.wavelet.proofs.Spots.{shallow}
+
+-- zeros after a list are what is missing there
+zeros-on : (l : List Bool) (k i : ℕ) → getD (l ++ replicate k false) i false ≡ getD l i false
+zeros-on [] zero i = refl
+zeros-on [] (suc k) zero = refl
+zeros-on [] (suc k) (suc i) = zeros-on [] k i ∙ none i
+  where
+    none : (i : ℕ) → getD {A = Bool} [] i false ≡ getD {A = Bool} [] (suc i) false
+    none zero = refl
+    none (suc i) = refl
+zeros-on (a ∷ l) k zero = refl
+zeros-on (a ∷ l) k (suc i) = zeros-on l k i
+
+-- how long the codewords of the alphabet are
+pub path-short : (m n d : ℕ) → Order m → 1 ≤ n → n ≤ mostAlphabet → d ≡ size m n n 0 → d ≤ 16
+path-short m n d o a b e = shallow m d o (rw e (omega (arith, codeword-size m n (omega arith) a .0)))
+
+module _ (m n d w : ℕ) (long : d + m ≤ 32) (bits : wordBits (d + m) w ≡ codeword m n) (small : w < 2 ^ (d + m)) where
+  -- the word, shifted to the top
+  shifted : w * 2 ^ (32 - d - m) % 2 ^ 64 ≡ w * 2 ^ (32 - d - m)
+  shifted = shl-exact (d + m) (32 - d - m) 64 small (omega arith)
+
+  pub path-fits : w * 2 ^ (32 - d - m) % 2 ^ 64 < 2 ^ 32
+  path-fits =
+      let n : d + m + (32 - d - m) ≡ 32 = omega arith in
+      rw shifted (subst (λ (k : ℕ). w * 2 ^ (32 - d - m) < 2 ^ k) n (shl-lt (d + m) (32 - d - m) small))
+
+  pub path-is : Path m n (w * 2 ^ (32 - d - m) % 2 ^ 64)
+  path-is s h =
+      let k : d + m + (32 - d - m) ≡ 32 = omega arith in
+      let x = w * 2 ^ (32 - d - m) in
+      let all : wordBits 32 x ≡ codeword m n ++ replicate (32 - d - m) false =
+      ap (λ (j : ℕ). wordBits j x) (sym k) ∙ words-padded (d + m) (32 - d - m) w ∙ ap (λ (l : List Bool). l ++ replicate (32 - d - m) false) bits in
+      rw shifted (sym (words-at 32 x s h) ∙ ap (λ (l : List Bool). getD l s false) all ∙ zeros-on (codeword m n) (32 - d - m) s)

@@ -1,0 +1,6 @@
+pub mod Nodes
+pub mod Bitmaps
+pub mod Questions
+pub mod Demand
+pub mod Answers
+pub mod Walk

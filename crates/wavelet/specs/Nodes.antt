@@ -1,0 +1,68 @@
+-- The nodes of the row index (paper 01, "The row index"; source 000, section 4: the pruned Wavelet tree), for any order m and any alphabet 1 .. N.
+use mathlib.Core.Bool.{Bool, true, false, _&&_}
+use mathlib.Core.List.{List, [], _∷_, _++_}
+use Prim.Native.Nat.{ℕ, zero, suc, _+_}
+use lib.Dec.{leb}
+use lib.ListN.{length}
+use Rattle.bits.specs.Bits.{is}
+use Rattle.fibonacci.specs.Code.{valuesFrom, number, codeword}
+
+-- The elements of a list that pass a test, in their order
+unfoldable pub those : {A : Type 0} → (A → Bool) → List A → List A
+those test [] = []
+those test (x ∷ xs) = elim (test x) [ true ↦ x ∷ those test xs | false ↦ those test xs ]
+
+-- p is the first bits of b, perhaps none or all of them
+unfoldable pub begins : List Bool → List Bool → Bool
+begins [] b = true
+begins (a ∷ p) [] = false
+begins (a ∷ p) (c ∷ b) = is a c && begins p b
+
+-- Some of the codewords of all of 1 .. N, used or not, begins with p
+unfoldable pub goesOn : ℕ → ℕ → List Bool → Bool
+goesOn m N p = leb 1 (length (those (λ n. begins p (codeword m n)) (valuesFrom (λ n. n) 1 N)))
+
+-- A node (paper 01: fork): a bit string, perhaps empty, after which both a 0 and a 1 continue some of these codewords
+unfoldable pub isNode : ℕ → ℕ → List Bool → Bool
+isNode m N p = goesOn m N (p ++ (false ∷ [])) && goesOn m N (p ++ (true ∷ []))
+
+-- ## The pruned tree
+
+-- A number, or a node: its bit string, its 0 side and its 1 side
+pub data Tree : Type 0 where
+  leaf : ℕ → Tree
+  node : List Bool → Tree → Tree → Tree
+
+-- The tree after the bits p, to at most d bits more. Strings with one continuation are pruned; one with none is a codeword
+unfoldable pub prune : ℕ → ℕ → ℕ → List Bool → Tree
+prune m N zero p = leaf (number m p)
+prune m N (suc d) p =
+    elim (goesOn m N (p ++ (false ∷ []))) [
+      | true ↦
+          elim (goesOn m N (p ++ (true ∷ []))) [
+            | true ↦ node p (prune m N d (p ++ (false ∷ []))) (prune m N d (p ++ (true ∷ [])))
+            | false ↦ prune m N d (p ++ (false ∷ []))
+          ]
+      | false ↦
+          elim (goesOn m N (p ++ (true ∷ []))) [
+            | true ↦ prune m N d (p ++ (true ∷ []))
+            | false ↦ leaf (number m p)
+          ]
+    ]
+
+-- The tree of 1 .. N; none of its codewords has more than m + N bits
+unfoldable pub tree : ℕ → ℕ → Tree
+tree m N = prune m N (m + N) []
+
+-- The nodes in the order in which their bitmaps are joined: a node, all on its 0 side, all on its 1 side
+unfoldable pub nodes : Tree → List (List Bool)
+nodes (leaf n) = []
+nodes (node p z o) = p ∷ (nodes z ++ nodes o)
+
+-- How many nodes of a tree begin the codeword of n
+abbrev pub visitsIn : ℕ → Tree → ℕ → ℕ
+visitsIn m t n = length (those (λ p. begins p (codeword m n)) (nodes t))
+
+-- The visits of a number (paper 01: looks): how many nodes begin its codeword
+unfoldable pub visits : ℕ → ℕ → ℕ → ℕ
+visits m N n = visitsIn m (tree m N) n

@@ -1,0 +1,52 @@
+-- Where a walk down the tree stands, and what the functions that walk find there.
+use mathlib.Core.Path.{_≡_}
+use mathlib.Core.Bool.{Bool, true, false}
+use mathlib.Core.List.{List, _∷_, _++_}
+use Prim.Native.Nat.{ℕ, suc, _+_, _-_, _≤_, _<_, min}
+use lib.ListN.{length, getD, drop}
+use Rattle.bits.specs.Bits.{bitOf, unpack}
+use Rattle.fibonacci.specs.Code.{F, ones, Codeword, first, number, codeword}
+use Rattle.wavelet.specs.Nodes.{Tree, prune}
+use Rattle.wavelet.specs.Bitmaps.{need, exact}
+use Rattle.wavelet.specs.declared.Spot.{Spot}
+
+-- At the string q of the tree of 1 .. N, f bits from its end: q has s bits and ends with r ones, which k more make m; c is the number of the codeword
+-- that goes on with those k ones, and w that of the codeword that goes on with a 0 and m ones
+pub record Stands (m N f : ℕ) (q : List Bool) (s w r c : ℕ) : Type 0 where
+  pub order : 1 ≤ m
+  pub long : length q ≡ s
+  pub k : ℕ
+  pub all : k + r ≡ m
+  pub finished : Codeword m (q ++ ones k)
+  pub number-is : number m (q ++ ones k) ≡ c
+  pub next-is : number m (q ++ (false ∷ ones m)) ≡ w
+  pub small : c ≤ N
+  pub fuel : (suc N - w) + m ≤ f
+
+abbrev pub At : ℕ → ℕ → ℕ → List Bool → Spot → Type 0
+At m N f q v = Stands m N f q (v .depth) (v .next) (v .ones) (v .number)
+
+-- No codeword as long as that of w has a number below the first number of that length
+abbrev pub Low : ℕ → Spot → Type 0
+Low m v = first m (v .depth + 1) ≤ v .next
+
+-- On the side of a bit
+abbrev pub sideOf : ℕ → Spot → Bool → Spot
+sideOf m v false = record { depth = v .depth + 1; next = v .next + F m (v .depth + 1); ones = 0; number = v .next }
+sideOf m v true = record { depth = v .depth + 1; next = v .next + F m (v .depth + 1) + F m (v .depth + 1); ones = v .ones + 1; number = v .number }
+
+-- Where the bitmaps of k numbers end that start at bit `at`; one more than there are bits where they run past them
+unfoldable pub ends : Tree → ℕ → List Bool → ℕ → ℕ
+ends t k b at = min (at + need t k (drop at b)) (suc (length b))
+
+-- So below a spot, in bytes
+abbrev pub Ends : ℕ → ℕ → Spot → ℕ → List ℕ → ℕ → ℕ → Type 0
+Ends m N v k s at e = (f : ℕ) (q : List Bool) → At m N f q v → e ≡ ends (prune m N f q) k (unpack s) at
+
+-- x has the bits of the codeword of n from the top of 32 bits on, and then zeros
+abbrev pub Path : ℕ → ℕ → ℕ → Type 0
+Path m n x = (s : ℕ) → s < 32 → bitOf x (31 - s) ≡ getD (codeword m n) s false
+
+-- Bitmaps that end at bit `end`, or run past the bytes, are those of an index exactly where the answer is true
+abbrev pub Exact : List ℕ → ℕ → Bool → Type 0
+Exact s end whole = (n : ℕ) → end ≡ min n (suc (length (unpack s))) → whole ≡ exact n s
