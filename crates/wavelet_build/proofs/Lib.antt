@@ -1,0 +1,5 @@
+pub mod Stretches
+pub mod Filling
+pub mod Parting
+pub mod Spreading
+pub mod Building

@@ -1,0 +1,144 @@
+use mathlib.Core.Path.{_≡_, refl, sym, _∙_}
+use mathlib.Core.Logic.{⊎-elim}
+use Prim.Native.Nat.{_-_, _<_}
+use native.Mathlib.Omega.{arith}
+use lib.ListN.{length, drop, length-set, length-take, length-drop}
+use borrow.Rule.Slice.PartMut.{same-len-mid}
+use Rattle.bits.specs.Bits.{unpack}
+use Rattle.wavelet_build.specs.Building.{bitAfter}
+use Rattle.wavelet_build.proofs.Parting.{Parting, parting-none, parting-one, parting-zero, parted-count, parted-words, parted-bits}
+use Rattle.wavelet_build.proofs.part.Statement.{statement}
+use Rattle.wavelet_build.proofs.part.Tie as tie
+
+abbrev Inv-loop : tie.InvT-loop
+Inv-loop words₀ spare₀ depth out₀ at zeros₀ ones₀ i₀ i-end words spare out zeros ones i =
+    Parting (bitAfter depth) words₀ words spare zeros ones i at (unpack out₀) (unpack out)
+    × (i-end ≡ length words₀) × (length spare ≡ length spare₀) × (length out ≡ length out₀)
+
+abbrev μ-loop : tie.MeasureT-loop
+μ-loop words₀ spare₀ depth out₀ at zeros₀ ones₀ i₀ i-end words spare out zeros ones i = i-end - i
+
+loop-holds : tie.Need-loop-holds Inv-loop μ-loop
+loop-holds c =
+    let s = c .before .before .before in
+    (parting-none _ _ _ _ _ (s .pre .1), refl, refl, refl)
+
+mul-x : tie.Need-mul-x Inv-loop μ-loop
+mul-x c = omega arith
+
+slice-read-x : tie.Need-slice-read-x Inv-loop μ-loop
+slice-read-x c = omega arith
+
+next-bit-requires : tie.Need-next-bit-requires Inv-loop μ-loop
+next-bit-requires c κs = omega arith
+
+add-set-bit : tie.Need-add-set-bit Inv-loop μ-loop
+add-set-bit c = omega arith
+
+set-bit-requires : tie.Need-set-bit-requires Inv-loop μ-loop
+set-bit-requires c κs = tt
+
+mul-spare : tie.Need-mul-spare Inv-loop μ-loop
+mul-spare c = omega arith
+
+slice-write-spare : tie.Need-slice-write-spare Inv-loop μ-loop
+slice-write-spare c = omega arith
+
+add-ones : tie.Need-add-ones Inv-loop μ-loop
+add-ones c = omega arith
+
+mul-words : tie.Need-mul-words Inv-loop μ-loop
+mul-words c = omega arith
+
+slice-write-words : tie.Need-slice-write-words Inv-loop μ-loop
+slice-write-words c = omega arith
+
+add-zeros : tie.Need-add-zeros Inv-loop μ-loop
+add-zeros c = omega arith
+
+add-i : tie.Need-add-i Inv-loop μ-loop
+add-i c = omega arith
+
+loop-less : tie.Need-loop-less Inv-loop μ-loop
+loop-less c = omega arith
+
+loop-again : tie.Need-loop-again Inv-loop μ-loop
+loop-again c =
+    let l = c .before .before .before .before .before .before .before .before .loop in
+    let p = l .inv .0 in
+    let bit = c .before .before .before .before .before .next-bit .ensures in
+    let set = c .before .before .before .set-bit in
+    let a = c .before .before .before .before .before .before .before .before .before .before .before .before .args in
+    let here : l .i < length (a .words .now) = omega arith in
+    ⊎-elim
+    (λ w. rw (w .1, w .2, w .3, w .4, set .ensures, bit)
+    (parting-one p here (sym bit ∙ w .0 .taken), refl, simp length-set (l .inv .2), set .kept .0 ∙ l .inv .3))
+    (λ w. rw (w .1, w .2, w .3, w .4, set .ensures, bit)
+    (parting-zero p here (sym bit ∙ w .0 .left), refl, l .inv .2, set .kept .0 ∙ l .inv .3))
+    (c .if1 .came)
+
+mul-copy-words : tie.Need-mul-copy-words Inv-loop μ-loop
+mul-copy-words c = omega arith
+
+sub-copy-words : tie.Need-sub-copy-words Inv-loop μ-loop
+sub-copy-words c = omega arith
+
+part-copy-words-start : tie.Need-part-copy-words-start Inv-loop μ-loop
+part-copy-words-start c = omega arith
+
+part-copy-words-end : tie.Need-part-copy-words-end Inv-loop μ-loop
+part-copy-words-end c = omega arith
+
+copy-words-requires : tie.Need-copy-words-requires Inv-loop μ-loop
+copy-words-requires c κs =
+    let l = c .before .before .before .loop in
+    (omega arith, omega (arith, length-take (length (l .words) - l .zeros) (drop (l .zeros) (l .words)), length-drop (l .zeros) (l .words)))
+
+same-length : tie.Need-same-length Inv-loop μ-loop
+same-length c =
+    let l = c .before .before .before .before .before .before .loop in
+    let y = c .before .before .copy-words in
+    same-len-mid (l .zeros) (length (l .words) - l .zeros) (l .words) (y .last .0) (y .kept .0) ∙ l .inv .0 .long
+
+same-length-2 : tie.Need-same-length-2 Inv-loop μ-loop
+same-length-2 c = c .before .before .before .before .before .before .loop .inv .2
+
+same-length-3 : tie.Need-same-length-3 Inv-loop μ-loop
+same-length-3 c = c .before .before .before .before .before .before .loop .inv .3
+
+returns : tie.Need-returns Inv-loop μ-loop
+returns c =
+    let l = c .before .before .before .before .before .before .loop in
+    let p = l .inv .0 in
+    (parted-count p (omega arith), parted-words p (omega arith) _ (c .before .before .copy-words .ensures), parted-bits p (omega arith))
+
+pub part-spec : {M : Type 1} → statement M
+part-spec =
+    tie.close
+    (tie.spec
+    Inv-loop
+    μ-loop
+    loop-holds
+    mul-x
+    slice-read-x
+    next-bit-requires
+    add-set-bit
+    set-bit-requires
+    mul-spare
+    slice-write-spare
+    add-ones
+    mul-words
+    slice-write-words
+    add-zeros
+    add-i
+    loop-less
+    loop-again
+    mul-copy-words
+    sub-copy-words
+    part-copy-words-start
+    part-copy-words-end
+    copy-words-requires
+    same-length
+    same-length-2
+    same-length-3
+    returns)
