@@ -1,37 +1,13 @@
 //! The expected output of the program `edges`: the same calls, made on the model. Each call gives one line: what it was called on, the answer as paper
 //! 01 has it, and the whole content of the buffer that it may write.
 
+mod lines;
 mod model;
 
+use lines::{bytes, numbers, said};
 use model::{codeword, encoding, pack, Answer};
 
 const LARGEST: u32 = 4_294_967_295;
-
-// ---- What the lines are made of ----
-
-fn checksum(elements: impl Iterator<Item = u64>) -> u64 {
-    elements.fold(0, |sum, element| (sum * 31 + element + 1) % 1_000_000_007)
-}
-
-fn bytes(s: &[u8]) -> String {
-    match s.len() {
-        0 => " none".to_string(),
-        1..=16 => s.iter().map(|b| format!(" {b:02X}")).collect(),
-        n => format!(" {n} bytes with checksum {}", checksum(s.iter().map(|b| *b as u64))),
-    }
-}
-
-fn numbers(row: &[u32]) -> String {
-    match row.len() {
-        0 => " none".to_string(),
-        1..=8 => row.iter().map(|n| format!(" {n}")).collect(),
-        n => format!(" {n} numbers with checksum {}", checksum(row.iter().map(|n| *n as u64))),
-    }
-}
-
-fn said<R>(a: &Answer<R>) -> String {
-    format!("answer {}, place {}", a.number, a.place)
-}
 
 // ---- The calls ----
 

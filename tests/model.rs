@@ -4,10 +4,15 @@
 // each program that uses the model uses a part of it
 #![allow(dead_code)]
 
+use std::cell::RefCell;
+use std::collections::{HashMap, HashSet};
+use std::rc::Rc;
+
 /// The paper's limits.
 pub const LARGEST: u128 = 4_294_967_295;
 pub const LONGEST: usize = 4_096;
 pub const MOST_BYTES: u64 = 24_064;
+pub const LARGEST_ALPHABET: u64 = 4_096;
 
 /// What a call says: the number of its answer, the place, and its results, which are 0 after a refusal.
 pub struct Answer<R> {
@@ -298,4 +303,207 @@ pub fn repeated_total(order: u64, bytes: &[u8], r: u64) -> Answer<u64> {
     }
     let sum: u64 = row.iter().map(|n| *n as u64).sum();
     Answer::yes(r * sum)
+}
+
+// ---- The row index ----
+
+/// What a node and a bit after it lead to: the next node, or the one number that is left.
+enum Next {
+    Node(usize),
+    Number(u32),
+}
+
+/// The nodes, paper 01's forks, of the codewords of 1 to a largest number, the alphabet (paper 01's top).
+pub struct Tree {
+    /// Codewords and paths of number n are at n - 1.
+    codewords: Vec<Vec<bool>>,
+    /// In the order in which bitmaps are joined.
+    nodes: Vec<Vec<bool>>,
+    /// For each node, what comes after a 0 and after a 1.
+    next: Vec<[Next; 2]>,
+    /// For each number, which nodes begin its codeword.
+    paths: Vec<Vec<usize>>,
+}
+
+fn with(string: &[bool], bit: bool) -> Vec<bool> {
+    [string, &[bit]].concat()
+}
+
+/// A node, if the string is one, then all nodes on its 0 side, then all on its 1 side. `begins` are the strings that begin some codeword.
+fn join(begins: &HashSet<Vec<bool>>, string: &[bool], nodes: &mut Vec<Vec<bool>>) {
+    let sides = [with(string, false), with(string, true)];
+    if sides.iter().all(|side| begins.contains(side)) {
+        nodes.push(string.to_vec());
+    }
+    for side in sides {
+        if begins.contains(&side) {
+            join(begins, &side, nodes);
+        }
+    }
+}
+
+impl Tree {
+    fn new(m: usize, alphabet: usize) -> Tree {
+        let codewords: Vec<Vec<bool>> = (1..=alphabet).map(|n| codeword(m, n as u128)).collect();
+        let mut begins = HashSet::new();
+        for codeword in &codewords {
+            for length in 0..=codeword.len() {
+                begins.insert(codeword[..length].to_vec());
+            }
+        }
+        let mut nodes = Vec::new();
+        join(&begins, &[], &mut nodes);
+        assert_eq!(nodes.len(), alphabet - 1);
+        let after = |string: &[bool]| match nodes.iter().position(|node| node.starts_with(string)) {
+            Some(node) => Next::Node(node),
+            None => Next::Number(1 + codewords.iter().position(|codeword| codeword.starts_with(string)).unwrap() as u32),
+        };
+        let next = nodes.iter().map(|node| [after(&with(node, false)), after(&with(node, true))]).collect();
+        let path = |codeword: &Vec<bool>| (0..nodes.len()).filter(|node| codeword.starts_with(&nodes[*node])).collect();
+        let paths = codewords.iter().map(path).collect();
+        Tree { codewords, nodes, next, paths }
+    }
+
+    /// The tree of an order and an alphabet, made once.
+    pub fn of(m: usize, alphabet: usize) -> Rc<Tree> {
+        thread_local!(static MADE: RefCell<HashMap<(usize, usize), Rc<Tree>>> = RefCell::new(HashMap::new()));
+        MADE.with(|made| made.borrow_mut().entry((m, alphabet)).or_insert_with(|| Rc::new(Tree::new(m, alphabet))).clone())
+    }
+
+    /// How many nodes begin the codeword of a number: its visits, paper 01's looks.
+    pub fn visits(&self, n: u32) -> u64 {
+        self.paths[n as usize - 1].len() as u64
+    }
+
+    /// The nodes' bitmaps: for each number of the row whose codeword begins with the node, in row order, the next bit.
+    pub fn bitmaps(&self, row: &[u32]) -> Vec<Vec<bool>> {
+        let mut bitmaps = vec![Vec::new(); self.nodes.len()];
+        for n in row {
+            for node in &self.paths[*n as usize - 1] {
+                bitmaps[*node].push(self.codewords[*n as usize - 1][self.nodes[*node].len()]);
+            }
+        }
+        bitmaps
+    }
+
+    /// The row that bytes are the index of, if they are one: node by node, the next bits of a bitmap part the places whose numbers begin with the node. All
+    /// bytes have to be needed, and the padding has to be zeros.
+    pub fn row_of(&self, length: usize, bytes: &[u8]) -> Option<Vec<u32>> {
+        let mut row = vec![1; length];
+        let mut places = vec![Vec::new(); self.nodes.len()];
+        if let Some(all) = places.first_mut() {
+            *all = (0..length).collect();
+        }
+        let stream = unpack(bytes);
+        let mut read = 0;
+        for node in 0..self.nodes.len() {
+            for place in std::mem::take(&mut places[node]) {
+                let bit = *stream.get(read)?;
+                read += 1;
+                match self.next[node][bit as usize] {
+                    Next::Node(below) => places[below].push(place),
+                    Next::Number(n) => row[place] = n,
+                }
+            }
+        }
+        let padding = &stream[read..];
+        if padding.len() >= 8 || padding.contains(&true) {
+            return None;
+        }
+        Some(row)
+    }
+}
+
+/// The checks that building and the questions begin with: 1; 9; 4.
+fn tree_of(order: u64, alphabet: u64, length: u64) -> Result<Rc<Tree>, Refusal> {
+    if !(2..=6).contains(&order) {
+        return Err(refusal(1));
+    }
+    if alphabet < 1 || alphabet > LARGEST_ALPHABET {
+        return Err(refusal(9));
+    }
+    if length > LONGEST as u64 {
+        return Err(refusal(4));
+    }
+    Ok(Tree::of(order as usize, alphabet as usize))
+}
+
+/// Building the index of a row: how many bits its bitmaps have.
+pub fn build(order: u64, alphabet: u64, row: &[u32], output: &mut [u8]) -> Answer<u64> {
+    let tree = match tree_of(order, alphabet, row.len() as u64) {
+        Ok(tree) => tree,
+        Err(refusal) => return Answer::no(refusal),
+    };
+    if let Some(place) = row.iter().position(|n| *n == 0 || *n as u64 > alphabet) {
+        return Answer::no(refusal_at(10, place));
+    }
+    let stream = tree.bitmaps(row).concat();
+    let bytes = pack(&stream);
+    if output.len() < bytes.len() {
+        return Answer::no(refusal(5));
+    }
+    output[..bytes.len()].copy_from_slice(&bytes);
+    Answer::yes(stream.len() as u64)
+}
+
+/// An index that the questions take, by its tree and its row. They are answered from the row.
+pub struct Index {
+    tree: Rc<Tree>,
+    alphabet: u64,
+    pub row: Vec<u32>,
+}
+
+/// The index in bytes, or the refusal of every question: 1; 9; 4; 11.
+pub fn index_of(order: u64, alphabet: u64, length: u64, bytes: &[u8]) -> Result<Index, Refusal> {
+    let tree = tree_of(order, alphabet, length)?;
+    match tree.row_of(length as usize, bytes) {
+        Some(row) => Ok(Index { tree, alphabet, row }),
+        None => Err(refusal(11)),
+    }
+}
+
+impl Index {
+    /// The number at a place, from 0, and its visits.
+    pub fn extract(&self, place: u64) -> Answer<(u64, u64)> {
+        if place >= self.row.len() as u64 {
+            return Answer::no(refusal(8));
+        }
+        let n = self.row[place as usize];
+        Answer::yes((n as u64, self.tree.visits(n)))
+    }
+
+    /// How often a number stands at the places before i, and its visits.
+    pub fn rank(&self, n: u64, i: u64) -> Answer<(u64, u64)> {
+        if n < 1 || n > self.alphabet {
+            return Answer::no(refusal(10));
+        }
+        if i > self.row.len() as u64 {
+            return Answer::no(refusal(8));
+        }
+        let count = self.row[..i as usize].iter().filter(|m| **m as u64 == n).count();
+        Answer::yes((count as u64, self.tree.visits(n as u32)))
+    }
+
+    /// The place of the use j of a number, from 1, and its visits.
+    pub fn select(&self, n: u64, j: u64) -> Answer<(u64, u64)> {
+        if n < 1 || n > self.alphabet {
+            return Answer::no(refusal(10));
+        }
+        if j == 0 {
+            return Answer::no(refusal(8));
+        }
+        let places: Vec<usize> = (0..self.row.len()).filter(|place| self.row[*place] as u64 == n).collect();
+        if places.len() < j as usize {
+            return Answer::no(refusal(12));
+        }
+        Answer::yes((places[j as usize - 1] as u64, self.tree.visits(n as u32)))
+    }
+}
+
+/// A question to an index in bytes.
+pub fn ask(order: u64, alphabet: u64, length: u64, bytes: &[u8], question: impl Fn(&Index) -> Answer<(u64, u64)>) -> Answer<(u64, u64)> {
+    match index_of(order, alphabet, length, bytes) {
+        Ok(index) => question(&index),
+        Err(refusal) => Answer::no(refusal),
+    }
 }

@@ -1,11 +1,11 @@
 // Appending: one number after the other across every bit of a byte, and its refusals in their order.
 ghost use Prim.Native.Nat.{_≤_};
 ghost use lib.ListN.{length};
-use crate::answers::Answer;
 use crate::calls::append;
 use crate::calls::append_to;
 use crate::calls::append_used;
 use crate::calls::write_into;
+use cases::Answer;
 
 fn append_next(order: usize, buf: &mut [u8], used: usize, n: u32) -> Answer {
     append(b"one after the other", order, buf, used, n)

@@ -2,12 +2,16 @@
 // filled with bytes A5, or numbers 7777777, so that what a call leaves alone shows. The most that a case asks for is 24,080 bytes and 4,100 numbers.
 ghost use Prim.Native.Nat.{_≤_};
 use crate::answers;
-use crate::answers::Answer;
-use crate::print::bytes;
-use crate::print::number;
-use crate::print::numbers;
-use crate::print::text;
-use crate::print::wide_number;
+use cases::Answer;
+use cases::end;
+use cases::number;
+use cases::print;
+use cases::print_two;
+use cases::text;
+use cases::wide_number;
+use cases::with_bytes;
+use cases::with_number;
+use cases::with_row;
 
 fn begin(name: &[u8], call: &[u8], order: usize) {
     text(name);
@@ -15,31 +19,12 @@ fn begin(name: &[u8], call: &[u8], order: usize) {
     number(order as u64);
 }
 
-fn with_bytes(label: &[u8], s: &[u8]) {
-    text(label);
-    bytes(s);
-}
-
-fn with_row(label: &[u8], row: &[u32]) {
-    text(label);
-    numbers(row);
-}
-
-fn with_number(label: &[u8], n: u64) {
-    text(label);
-    number(n);
-}
-
-fn end() {
-    text(b"\n");
-}
-
 // The result is how many bytes were written, 0 after a refusal.
 pub fn write(name: &[u8], order: usize, row: &[u32], out: &mut [u8]) -> usize {
     begin(name, b": write, order ", order);
     with_row(b", row", row);
     let a = answers::of_write(encoder::write(order, row, out));
-    answers::print_two(a, b", bytes ", b", bits ");
+    print_two(a, b", bytes ", b", bits ");
     with_bytes(b"; output", out);
     end();
     a.first as usize
@@ -49,7 +34,7 @@ pub fn read(name: &[u8], order: usize, s: &[u8], out: &mut [u32]) {
     begin(name, b": read, order ", order);
     with_bytes(b", encoding", s);
     let a = answers::of_read(decoder::read(order, s, out));
-    answers::print(a, b", count ");
+    print(a, b", count ");
     with_row(b"; output", out);
     end();
 }
@@ -60,7 +45,7 @@ fn read_by_bytes(name: &[u8], s: &[u8], out: &mut [u32]) {
     text(b": read by bytes");
     with_bytes(b", encoding", s);
     let a = answers::of_read(table_decoder::read(s, out));
-    answers::print(a, b", count ");
+    print(a, b", count ");
     with_row(b"; output", out);
     end();
 }
@@ -75,7 +60,7 @@ fn begin_append(name: &[u8], order: usize, buf: &[u8], used: usize, n: u32) {
 pub fn append(name: &[u8], order: usize, buf: &mut [u8], used: usize, n: u32) -> Answer {
     begin_append(name, order, buf, used, n);
     let a = answers::of_append(encoder::append(order, buf, used, n));
-    answers::print_two(a, b", in use ", b", count ");
+    print_two(a, b", in use ", b", count ");
     with_bytes(b"; buffer", buf);
     end();
     a
@@ -86,7 +71,7 @@ pub fn total(name: &[u8], order: usize, s: &[u8], a: usize, b: usize) {
     with_bytes(b", encoding", s);
     with_number(b", from ", a as u64);
     with_number(b" to ", b as u64);
-    answers::print(
+    print(
         answers::of_total(decoder::total(order, s, a, b)),
         b", total ",
     );
@@ -98,7 +83,7 @@ pub fn repeated_total(name: &[u8], order: usize, s: &[u8], repeats: u64) {
     with_bytes(b", encoding", s);
     with_number(b", repeats ", repeats);
     let a = answers::of_repeated_total(decoder::repeated_total(order, s, repeats));
-    answers::print(a, b", total ");
+    print(a, b", total ");
     end();
 }
 

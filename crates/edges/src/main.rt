@@ -4,7 +4,6 @@ mod answers;
 mod appending;
 mod calls;
 mod encodings;
-mod print;
 mod rows;
 mod writing;
 

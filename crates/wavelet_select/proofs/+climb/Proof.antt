@@ -108,7 +108,8 @@ climb-least-requires t c κs = tt
 climb-returns : (t : ℕ) → climb-lts.Need-returns (known t) (climb-at t) climb.Post
 climb-returns t c =
     let z = c .before .before .before .before in
-    climb-leaf _ _ (z .args .v) _ _ _ _ _ (z .pre .1 .5) (sym (c .before .before .is-node .ensures) ∙ not-true _ (c .before .if1 .taken)) _ (c .least .ensures)
+    climb-leaf _ _ (z .args .v) (z .args .k) _ _ _ (z .args .j) (z .pre .1 .5) (sym (c .before .before .is-node .ensures) ∙ not-true _ (c .before .if1 .taken))
+    _ (c .least .ensures)
 
 climb-mul-total : (t : ℕ) → climb-lts.Need-mul-total (known t) (climb-at t) climb.Post
 climb-mul-total t c = omega (arith, c .before .before .before .pre .1 .4)

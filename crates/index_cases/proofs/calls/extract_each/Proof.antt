@@ -1,24 +1,19 @@
-use mathlib.Core.Path.{_≡_}
 use Prim.Native.Nat.{_≤_, _-_}
-use lib.ListN.{length}
 use borrow.Author.Needs.{needs}
-use Rattle.edges.proofs.print.each_byte.Statement.{statement}
-use Rattle.edges.proofs.print.each_byte.Tie as tie
+use Rattle.index_cases.proofs.calls.extract_each.Statement.{statement}
+use Rattle.index_cases.proofs.calls.extract_each.Tie as tie
 
 abbrev Inv-loop : tie.InvT-loop
-Inv-loop s i₀ i-end i = (i ≤ i-end) × (i-end ≡ length s)
+Inv-loop name order alphabet len b i₀ i = i ≤ len
 
 abbrev μ-loop : tie.MeasureT-loop
-μ-loop s i₀ i-end i = i-end - i
+μ-loop name order alphabet len b i₀ i = len - i
 
 loop-holds : tie.Need-loop-holds Inv-loop μ-loop
 loop-holds c = search needs
 
-shared-slice-read-byte : tie.Need-shared-slice-read-byte Inv-loop μ-loop
-shared-slice-read-byte c = search needs
-
-byte-requires : tie.Need-byte-requires Inv-loop μ-loop
-byte-requires c κs = search needs
+extract-requires : tie.Need-extract-requires Inv-loop μ-loop
+extract-requires c κs = search needs
 
 add-i : tie.Need-add-i Inv-loop μ-loop
 add-i c = search needs
@@ -29,19 +24,22 @@ loop-less c = search needs
 loop-again : tie.Need-loop-again Inv-loop μ-loop
 loop-again c = search needs
 
+extract-requires-2 : tie.Need-extract-requires-2 Inv-loop μ-loop
+extract-requires-2 c κs = search needs
+
 returns : tie.Need-returns Inv-loop μ-loop
 returns c = search needs
 
-pub each-byte-spec : {M : Type 1} → statement M
-each-byte-spec =
+pub extract-each-spec : {M : Type 1} → statement M
+extract-each-spec =
     tie.close
     (tie.spec
     Inv-loop
     μ-loop
     loop-holds
-    shared-slice-read-byte
-    byte-requires
+    extract-requires
     add-i
     loop-less
     loop-again
+    extract-requires-2
     returns)

@@ -2,8 +2,8 @@ use mathlib.Core.Path.{_≡_}
 use Prim.Native.Nat.{_≤_, _<_, _-_}
 use lib.ListN.{length}
 use borrow.Author.Needs.{needs}
-use Rattle.edges.proofs.print.bytes_checksum.Statement.{statement}
-use Rattle.edges.proofs.print.bytes_checksum.Tie as tie
+use Rattle.cases.proofs.bytes_checksum.Statement.{statement}
+use Rattle.cases.proofs.bytes_checksum.Tie as tie
 
 abbrev Inv-loop : tie.InvT-loop
 Inv-loop s sum₀ i₀ i-end sum i = (i ≤ i-end) × (i-end ≡ length s) × (sum < 1000000007)

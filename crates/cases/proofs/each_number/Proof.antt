@@ -2,8 +2,8 @@ use mathlib.Core.Path.{_≡_}
 use Prim.Native.Nat.{_≤_, _-_}
 use lib.ListN.{length}
 use borrow.Author.Needs.{needs}
-use Rattle.edges.proofs.print.each_number.Statement.{statement}
-use Rattle.edges.proofs.print.each_number.Tie as tie
+use Rattle.cases.proofs.each_number.Statement.{statement}
+use Rattle.cases.proofs.each_number.Tie as tie
 
 abbrev Inv-loop : tie.InvT-loop
 Inv-loop row i₀ i-end i = (i ≤ i-end) × (i-end ≡ length row)
