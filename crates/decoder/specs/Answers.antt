@@ -15,10 +15,6 @@ use Rattle.decoder.specs.declared.ScanAnswer.{ScanAnswer}
 use Rattle.decoder.specs.declared.ScanAnswer.the-variants as scan
 use Rattle.decoder.specs.declared.ReadAnswer.{ReadAnswer}
 use Rattle.decoder.specs.declared.ReadAnswer.the-variants as answer
-use Rattle.decoder.specs.declared.TotalAnswer.{TotalAnswer}
-use Rattle.decoder.specs.declared.TotalAnswer.the-variants as total
-use Rattle.decoder.specs.declared.RepeatedTotalAnswer.{RepeatedTotalAnswer}
-use Rattle.decoder.specs.declared.RepeatedTotalAnswer.the-variants as repeated
 
 -- Why an encoding is not read: the refusal's number and place
 abbrev pub reason : Refusal → ℕ × ℕ
@@ -39,16 +35,6 @@ readOutcome answer.Room = refused 5 0
 -- What a reader of order m promises of its answer, and of its output before and after
 abbrev pub ReadPromise : ℕ → List ℕ → List ℕ → ReadAnswer → List ℕ → Type 0
 ReadPromise m s before a after = (readOutcome a ≡ read m s (length before)) × (after ≡ readInto m s before)
-
-abbrev pub totalOutcome : TotalAnswer → Outcome ℕ
-totalOutcome (total.Sum x) = accepted x
-totalOutcome (total.Refused r) = refusal r
-totalOutcome total.Span = refused 8 0
-
-abbrev pub repeatedOutcome : RepeatedTotalAnswer → Outcome ℕ
-repeatedOutcome (repeated.Sum x) = accepted x
-repeatedOutcome (repeated.Refused r) = refusal r
-repeatedOutcome repeated.Repeats = refused 14 0
 
 -- ## The scan
 

@@ -1,14 +1,12 @@
--- Reading an encoding, and totals of its numbers (paper 01, "When a call says no": Read, Total, Runner). The checks stand in the paper's order.
+-- Reading an encoding (paper 01, "When a call says no": Read). The checks stand in the paper's order.
 use mathlib.Core.Bool.{Bool, true, not}
 use mathlib.Core.List.{List, [], _∷_}
-use Prim.Native.Nat.{ℕ, suc, _*_}
+use Prim.Native.Nat.{ℕ, suc}
 use lib.Dec.{leb, ltb}
 use lib.ListN.{length}
-use lib.Seq.{slice}
 use Rattle.bits.specs.Bits.{unpack, count}
-use Rattle.fibonacci.specs.Code.{sum}
 use Rattle.fibonacci.specs.Encoding.{rest, parse, numbers}
-use Rattle.fibonacci.specs.Calls.{Outcome, accepted, check, andThen, buffer, within, isOrder, isNumber, largest, longest, mostBytes}
+use Rattle.fibonacci.specs.Calls.{Outcome, accepted, check, andThen, buffer, isOrder, isNumber, largest, longest, mostBytes}
 
 -- From the left, at each finished codeword: 4 if it is the 4,097th, else 7 if its number is above the limit
 unfoldable pub checkFinished : {A : Type 0} → ℕ → ℕ → List ℕ → Outcome A → Outcome A
@@ -47,16 +45,3 @@ read m s room = andThen (decode m s) (λ row.
 -- The output after reading
 unfoldable pub readInto : ℕ → List ℕ → List ℕ → List ℕ
 readInto m s before = buffer (read m s (length before)) (numbers m (unpack s)) before
-
--- Total from a, up to but without b: 8 a above b or b above the count; else the sum
-unfoldable pub total : ℕ → List ℕ → ℕ → ℕ → Outcome ℕ
-total m s a b = andThen (decode m s) (λ row.
-    check 8 0 (ltb b a)
-    (check 8 0 (ltb (length row) b)
-    (accepted (sum (slice a b row)))))
-
--- Repeated total (paper 01: the runner's width): 14 r not 1 to 10,000; else r times the row's total
-unfoldable pub repeatedTotal : ℕ → List ℕ → ℕ → Outcome ℕ
-repeatedTotal m s r = andThen (decode m s) (λ row.
-    check 14 0 (not (within 1 10000 r))
-    (accepted (r * sum row)))

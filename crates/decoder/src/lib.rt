@@ -1,16 +1,16 @@
-// Reading an encoding of order 2 to 6, bit by bit, and totals of its numbers.
+// Reading an encoding of order 2 to 6, bit by bit, and the scan that totals and appending share with it.
 ghost use mathlib.Core.Path.{_≡_};
 ghost use mathlib.Core.Bool.{_&&_};
 ghost use mathlib.Core.List.{_++_};
-ghost use Prim.Native.Nat.{_+_, _*_, _^_, _≤_, _<_};
+ghost use Prim.Native.Nat.{_+_, _^_, _≤_, _<_};
 ghost use lib.Dec.{eqb, ltb};
 ghost use lib.ListN.{length, take, drop, set};
 ghost use Rattle.bits.specs.Bits.{unpack};
 ghost use Rattle.fibonacci.specs.Code.{ones, value, first};
 ghost use Rattle.fibonacci.specs.Tables.{Order, tableRow};
 ghost use Rattle.fibonacci.specs.Calls.{accepted, andThen, largest};
-ghost use Rattle.decoder.specs.Reading.{contents, decode, total, repeatedTotal};
-ghost use Rattle.decoder.specs.Answers.{ReadPromise, totalOutcome, repeatedOutcome, scanOutcome, found, Stored};
+ghost use Rattle.decoder.specs.Reading.{contents, decode};
+ghost use Rattle.decoder.specs.Answers.{ReadPromise, scanOutcome, found, Stored};
 
 // Why an encoding is not read. The numbers are paper 01's.
 pub enum Refusal {
@@ -32,20 +32,6 @@ pub enum ReadAnswer {
     Refused(Refusal),
     // 5: the output is shorter than the row.
     Room,
-}
-
-pub enum TotalAnswer {
-    Sum(u64),
-    Refused(Refusal),
-    // 8: the span is not one of the row's.
-    Span,
-}
-
-pub enum RepeatedTotalAnswer {
-    Sum(u64),
-    Refused(Refusal),
-    // 14: the repeats are not 1 to 10,000.
-    Repeats,
 }
 
 // What a scan finds: how many numbers the row has, how many bits they take, and the sum of those that it was asked for.
@@ -216,43 +202,5 @@ pub fn read(order: usize, s: &[u8], out: &mut [u32]) -> ReadAnswer
             ReadAnswer::Row(count)
         }
         ScanAnswer::Refused(r) => ReadAnswer::Refused(r),
-    }
-}
-
-// The total of the numbers from place a up to but without place b.
-pub fn total(order: usize, s: &[u8], a: usize, b: usize) -> TotalAnswer
-    ensures { λ r. ⌜ totalOutcome r ≡ total order (now (s .entry)) a b ⌝ }
-{
-    let scanned = scan(order, s, a, b);
-    match scanned {
-        ScanAnswer::Row(f) => {
-            if a > b {
-                return TotalAnswer::Span;
-            }
-            if b > f.count {
-                return TotalAnswer::Span;
-            }
-            TotalAnswer::Sum(f.total)
-        }
-        ScanAnswer::Refused(r) => TotalAnswer::Refused(r),
-    }
-}
-
-// The total of the row, so many times.
-pub fn repeated_total(order: usize, s: &[u8], repeats: u64) -> RepeatedTotalAnswer
-    ensures { λ r. ⌜ repeatedOutcome r ≡ repeatedTotal order (now (s .entry)) repeats ⌝ }
-{
-    let scanned = scan(order, s, 0, fibonacci::LONGEST);
-    match scanned {
-        ScanAnswer::Row(f) => {
-            if repeats == 0 {
-                return RepeatedTotalAnswer::Repeats;
-            }
-            if repeats > 10000 {
-                return RepeatedTotalAnswer::Repeats;
-            }
-            RepeatedTotalAnswer::Sum(repeats * f.total)
-        }
-        ScanAnswer::Refused(r) => RepeatedTotalAnswer::Refused(r),
     }
 }

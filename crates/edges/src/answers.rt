@@ -5,10 +5,10 @@ use cases::refused;
 use cases::refused_at;
 use decoder::ReadAnswer;
 use decoder::Refusal;
-use decoder::RepeatedTotalAnswer;
-use decoder::TotalAnswer;
 use encoder::AppendAnswer;
 use encoder::WriteAnswer;
+use totals::RepeatedTotalAnswer;
+use totals::TotalAnswer;
 
 fn unread(r: Refusal) -> Answer {
     match r {

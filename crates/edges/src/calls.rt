@@ -72,7 +72,7 @@ pub fn total(name: &[u8], order: usize, s: &[u8], a: usize, b: usize) {
     with_number(b", from ", a as u64);
     with_number(b" to ", b as u64);
     print(
-        answers::of_total(decoder::total(order, s, a, b)),
+        answers::of_total(totals::total(order, s, a, b)),
         b", total ",
     );
     end();
@@ -82,7 +82,7 @@ pub fn repeated_total(name: &[u8], order: usize, s: &[u8], repeats: u64) {
     begin(name, b": repeated total, order ", order);
     with_bytes(b", encoding", s);
     with_number(b", repeats ", repeats);
-    let a = answers::of_repeated_total(decoder::repeated_total(order, s, repeats));
+    let a = answers::of_repeated_total(totals::repeated_total(order, s, repeats));
     print(a, b", total ");
     end();
 }

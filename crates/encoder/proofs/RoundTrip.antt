@@ -17,8 +17,10 @@ use Rattle.fibonacci.specs.Tables.{Order}
 use Rattle.fibonacci.specs.Calls.{accepted, isNumber, Legal, largest, longest}
 use Rattle.fibonacci.proofs.Checks.{is-order, number-is, is-number}
 use Rattle.fibonacci.proofs.Rows.{bits-append, numbers-bits, encoding-parse, encoding-read}
-use Rattle.decoder.specs.Reading.{decode, read, readInto, total, repeatedTotal}
-use Rattle.decoder.proofs.Decoding.{decode-is, decode-accepts, read-is, read-row, total-sum, repeated-sum}
+use Rattle.decoder.specs.Reading.{decode, read, readInto}
+use Rattle.decoder.proofs.Decoding.{decode-is, decode-accepts, read-is, read-row}
+use Rattle.totals.specs.Totals.{total, repeatedTotal}
+use Rattle.totals.proofs.Totals.{total-sum, repeated-sum}
 use Rattle.encoder.specs.Writing.{write, writeInto, append, appendInto}
 use Rattle.encoder.specs.RoundTrip.{RoundTrip, appendAll}
 use Rattle.encoder.proofs.Rows.{bits-few}

@@ -11,8 +11,10 @@ use borrow.Author.Tests.{le-leb}
 use Rattle.bits.specs.Bits.{unpack, count}
 use Rattle.fibonacci.specs.Encoding.{rest, parse, numbers}
 use Rattle.fibonacci.specs.Calls.{Outcome, accepted, refused, check, andThen, isOrder, isNumber, largest, longest, mostBytes}
-use Rattle.decoder.specs.Reading.{checkFinished, contents, decode, total}
-use Rattle.decoder.proofs.Decoding.{decode-is, span-most}
+use Rattle.decoder.specs.Reading.{checkFinished, contents, decode}
+use Rattle.decoder.proofs.Decoding.{decode-is}
+use Rattle.totals.specs.Totals.{total}
+use Rattle.totals.proofs.Totals.{span-most}
 use Rattle.table_decoder.specs.Reading.{readBytes}
 
 -- A place is at most 4,096, and what is accepted is what it should be

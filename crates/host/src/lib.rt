@@ -4,7 +4,7 @@ ghost use Prim.Native.Nat.{_≤_};
 ghost use lib.ListN.{length};
 ghost use Rattle.fibonacci.specs.Calls.{longest};
 ghost use Rattle.decoder.specs.Answers.{reason, refusal};
-ghost use Rattle.decoder.specs.Reading.{total};
+ghost use Rattle.totals.specs.Totals.{total};
 ghost use Rattle.table_decoder.specs.Reading.{readBytes, readBytesInto};
 ghost use Rattle.host.specs.Host.{hostNumber};
 
@@ -40,10 +40,10 @@ pub extern "C" fn leadginger_read(s: &[u8], out: &mut [u8]) -> u64
 pub extern "C" fn leadginger_total(order: usize, s: &[u8], a: usize, b: usize) -> u64
     ensures { λ r. ⌜ r ≡ hostNumber (total order (now (s .entry)) a b) ⌝ }
 {
-    let answer = decoder::total(order, s, a, b);
+    let answer = totals::total(order, s, a, b);
     match answer {
-        decoder::TotalAnswer::Sum(total) => 32 * total,
-        decoder::TotalAnswer::Refused(r) => unread(r),
-        decoder::TotalAnswer::Span => 8,
+        totals::TotalAnswer::Sum(total) => 32 * total,
+        totals::TotalAnswer::Refused(r) => unread(r),
+        totals::TotalAnswer::Span => 8,
     }
 }

@@ -2,7 +2,7 @@ use mathlib.Core.Path.{sym, ap, _∙_, subst}
 use Prim.Native.Nat.{_*_, _≤_}
 use native.Mathlib.Omega.{arith}
 use Rattle.fibonacci.specs.Calls.{longest, largest}
-use Rattle.decoder.specs.Answers.{totalOutcome}
+use Rattle.totals.specs.Totals.{totalOutcome}
 use Rattle.host.specs.Host.{hostNumber}
 use Rattle.host.proofs.Fitting.{Fits, total-fits}
 use borrow.Author.Needs.{needs}

@@ -3,13 +3,14 @@ use mathlib.Core.List.{List}
 use Prim.Native.Nat.{ℕ}
 use native.Mathlib.Omega.{arith}
 use Rattle.fibonacci.specs.Calls.{accepted}
 use Rattle.decoder.specs.declared.Found.{Found}
 use Rattle.decoder.specs.Reading.{decode}
 use Rattle.decoder.specs.Answers.{refusal, found}
-use Rattle.decoder.proofs.Decoding.{scan-row, scan-refused, total-sum, total-turned, total-past, total-refused}
+use Rattle.decoder.proofs.Decoding.{scan-row, scan-refused}
+use Rattle.totals.proofs.Totals.{total-sum, total-turned, total-past, total-refused}
 use borrow.Author.Needs.{needs}
-use Rattle.decoder.proofs.total.Statement.{statement}
-use Rattle.decoder.proofs.total.Tie as tie
+use Rattle.totals.proofs.total.Statement.{statement}
+use Rattle.totals.proofs.total.Tie as tie
 
 -- the row that the scan found
 row-of : (c : tie.After-scanned)

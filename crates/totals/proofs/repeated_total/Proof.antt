@@ -4,13 +4,14 @@ use Prim.Native.Nat.{ℕ, _*_, _≤_}
 use native.Mathlib.Omega.{arith}
 use native.Mathlib.Nat.{mul-le-mul}
 use Rattle.fibonacci.specs.Calls.{accepted, longest}
 use Rattle.decoder.specs.declared.Found.{Found}
 use Rattle.decoder.specs.Reading.{decode}
 use Rattle.decoder.specs.Answers.{refusal, found}
-use Rattle.decoder.proofs.Decoding.{scan-row, scan-refused, span-most, repeated-sum, repeated-none, repeated-more, repeated-refused}
+use Rattle.decoder.proofs.Decoding.{scan-row, scan-refused}
+use Rattle.totals.proofs.Totals.{span-most, repeated-sum, repeated-none, repeated-more, repeated-refused}
 use borrow.Author.Needs.{needs}
-use Rattle.decoder.proofs.repeated_total.Statement.{statement}
-use Rattle.decoder.proofs.repeated_total.Tie as tie
+use Rattle.totals.proofs.repeated_total.Statement.{statement}
+use Rattle.totals.proofs.repeated_total.Tie as tie
 
 -- the row that the scan found
 row-of : (c : tie.After-scanned)
