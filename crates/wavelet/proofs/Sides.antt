@@ -6,60 +6,90 @@ use Prim.Native.Nat.{ℕ, _+_, _-_, _≤_, _<_}
 use native.Mathlib.Omega.{arith}
 use lib.ListN.{length, getD, take, drop, length-take, length-drop}
 use lib.Seq.{take-take, drop-drop, getD-take, getD-drop}
-use Rattle.bits.specs.Bits.{bitOf, count}
+use Rattle.bits.specs.Bits.{bitOf, count, place}
 use Rattle.bits.proofs.Count.{count-both, count-between}
 use Rattle.fibonacci.specs.Code.{codeword}
-use Rattle.wavelet.specs.Nodes.{begins, Tree, node, prune}
+use Rattle.wavelet.specs.Nodes.{begins, Tree, node, prune, visitsIn}
 use Rattle.wavelet.specs.Bitmaps.{need, held}
+use Rattle.wavelet.specs.Questions.{uses, rankIn}
 use Rattle.wavelet.specs.Walk.{At, ends, Path}
 use Rattle.wavelet.specs.declared.Spot.{Spot}
 use Rattle.wavelet.proofs.Strings.{begins-next}
 use Rattle.wavelet.proofs.Pruned.{stands-longer}
 use Rattle.wavelet.proofs.Forks.{stands-under}
-use Rattle.wavelet.proofs.Trees.{Under, afterZero, zeroSide, oneSide}
+use Rattle.wavelet.proofs.Trees.{Under, afterZero, zeroSide, oneSide, extract-one, extract-zero, rank-one, rank-zero, select-one, select-zero, visits-one, visits-zero}
 use Rattle.wavelet.proofs.Ends.{zeros}
 
--- the bits from the bitmap on
+-- what a bit chooses of two
+abbrev pub side : {A : Type 0} → Bool → A → A → A
+side false z o = z
+side true z o = o
+
+-- ## A node's bitmap of k bits, of which e are ones, at bit `at`
+
 module _ (k : ℕ) (b : List Bool) (at e : ℕ) (fits : at + k ≤ length b) (ones : e ≡ count true (take k (drop at b))) where
   abbrev here : List Bool
   here = drop at b
 
-  -- the 0 side
-  pub zero-held : (z : Tree) → zeroSide z k here ≡ held z (k - e) (drop (at + k) b)
-  zero-held z = ap₂ (λ (n : ℕ) (l : List Bool). held z n l) (sym (zeros k b at e fits ones)) (drop-drop k at b)
+  -- how many numbers are on a side
+  pub count-side : (a : Bool) → count a (take k here) ≡ side a (k - e) e
+  count-side false = sym (zeros k b at e fits ones)
+  count-side true = sym ones
 
-  -- the 1 side, from where the 0 side ends
-  module _ (z o : Tree) (mid : ℕ) (after : mid ≡ at + k + need z (k - e) (drop (at + k) b)) where
-    pub one-held : oneSide z o k here ≡ held o e (drop mid b)
-    one-held =
-        let d : afterZero z k here ≡ drop mid b =
-        ap₂ (λ (n : ℕ) (l : List Bool). drop (need z n l) l) (sym (zeros k b at e fits ones)) (drop-drop k at b)
-        ∙ drop-drop (need z (k - e) (drop (at + k) b)) (at + k) b ∙ ap (λ (i : ℕ). drop i b) (sym after) in
-        ap₂ (λ (n : ℕ) (l : List Bool). held o n l) (sym ones) d
+  -- and which; the 1 side is read from where the 0 side ends
+  pub held-side : (z o : Tree) (mid : ℕ) → mid ≡ at + k + need z (k - e) (drop (at + k) b) → (a : Bool)
+      → side a (zeroSide z k here) (oneSide z o k here) ≡ held (side a z o) (side a (k - e) e) (drop (side a (at + k) mid) b)
+  held-side z o mid after false = ap₂ (λ (n : ℕ) (l : List Bool). held z n l) (count-side false) (drop-drop k at b)
+  held-side z o mid after true =
+      let d : afterZero z k here ≡ drop mid b =
+      ap₂ (λ (n : ℕ) (l : List Bool). drop (need z n l) l) (count-side false) (drop-drop k at b)
+      ∙ drop-drop (need z (k - e) (drop (at + k) b)) (at + k) b ∙ ap (λ (i : ℕ). drop i b) (sym after) in
+      ap₂ (λ (n : ℕ) (l : List Bool). held o n l) (count-side true) d
 
-  -- the ones and zeros before place i
+  -- how many of them stand before place i, before which there are c ones
   module _ (i c : ℕ) (le : i ≤ k) (before : c ≡ count true (take i here)) where
     same : take i (take k here) ≡ take i here
     same = take-take i k here le
 
-    pub ones-before : count true (take i (take k here)) ≡ c
-    ones-before = ap (count true) same ∙ sym before
+    pub before-side : (a : Bool) → count a (take i (take k here)) ≡ side a (i - c) c
+    before-side false = ap (count false) same ∙ omega (arith, count-both (take i here), length-take i here, length-drop at b)
+    before-side true = ap (count true) same ∙ sym before
 
-    pub zeros-before : count false (take i (take k here)) ≡ i - c
-    zeros-before = ap (count false) same ∙ omega (arith, count-both (take i here), length-take i here, length-drop at b)
-
-    pub place-fits : (c ≤ e) × (i - c ≤ k - e)
-    place-fits =
+    pub place-fits : (a : Bool) → side a (i - c) c ≤ side a (k - e) e
+    place-fits a =
         let n : i + (k - i) ≡ k = omega arith in
-        let part : (v : Bool) → count v (take k here) ≡ count v (take i here) + count v (take (k - i) (drop i here)) =
-        λ v. ap (λ (j : ℕ). count v (take j here)) (sym n) ∙ count-between v i (k - i) here in (
-          omega (arith, part true),
-          omega (arith, part false, zeros k b at e fits ones, zeros-before, ap (count false) same),
-        )
+        let part : count a (take k here) ≡ count a (take i here) + count a (take (k - i) (drop i here)) =
+        ap (λ (j : ℕ). count a (take j here)) (sym n) ∙ count-between a i (k - i) here in
+        omega (arith, part, count-side a, before-side a, ap (count a) same)
 
     -- place i itself
     pub place-bit : i < k → getD (take k here) i false ≡ getD b (at + i) false
     place-bit h = getD-take k here i false h ∙ getD-drop at b i false
+
+-- ## What the row below a node answers, asked of a side
+
+module _ (m : ℕ) (q : List Bool) (z o : Tree) (u : Under m q (node q z o)) where
+  module _ (k : ℕ) (b : List Bool) (d : need (node q z o) k b ≤ length b) where
+    pub extract-side : (a : Bool) (i : ℕ) → i < k → getD (take k b) i false ≡ a
+        → getD (held (node q z o) k b) i 0 ≡ getD (side a (zeroSide z k b) (oneSide z o k b)) (count a (take i (take k b))) 0
+    extract-side false = extract-zero m q q z o k b u d
+    extract-side true = extract-one m q q z o k b u d
+
+    pub rank-side : (a : Bool) (n : ℕ) → begins (q ++ (a ∷ [])) (codeword m n) ≡ true → (i : ℕ) → i ≤ k
+        → rankIn (held (node q z o) k b) n i ≡ rankIn (side a (zeroSide z k b) (oneSide z o k b)) n (count a (take i (take k b)))
+    rank-side false = rank-zero m q q z o k b u d
+    rank-side true = rank-one m q q z o k b u d
+
+    pub select-side : (a : Bool) (n : ℕ) → begins (q ++ (a ∷ [])) (codeword m n) ≡ true → (j : ℕ)
+        → place true j (uses n (held (node q z o) k b)) ≡ place a (place true j (uses n (side a (zeroSide z k b) (oneSide z o k b)))) (take k b)
+    select-side false = select-zero m q q z o k b u d
+    select-side true = select-one m q q z o k b u d
+
+  pub visits-side : (a : Bool) (n : ℕ) → begins (q ++ (a ∷ [])) (codeword m n) ≡ true → visitsIn m (node q z o) n ≡ 1 + visitsIn m (side a z o) n
+  visits-side false n g = omega (arith, visits-zero m q q z o u n g)
+  visits-side true n g = omega (arith, visits-one m q q z o u n g)
+
+-- ## Where a walk stands
 
 -- the next bit of a codeword below the node says on which side it is
 pub path-side : {m N f : ℕ} {q : List Bool} {v : Spot} → At m N f q v → v .ones < m → v .depth < 32 → (n x : ℕ) → Path m n x → 1 ≤ n

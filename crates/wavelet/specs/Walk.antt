@@ -1,4 +1,4 @@
--- Where a walk down the tree stands, and what the functions that walk find there.
+-- Where a walk down the tree stands, and what the functions that walk find there: for the contracts of those functions. No operation's promise cites it.
 use mathlib.Core.Path.{_≡_}
 use mathlib.Core.Bool.{Bool, true, false}
 use mathlib.Core.List.{List, _∷_, _++_}

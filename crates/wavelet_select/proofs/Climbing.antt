@@ -20,29 +20,13 @@ use Rattle.wavelet.proofs.Merging.{select-same, select-same-none}
 use Rattle.wavelet.proofs.Trees.{Under, zeroSide, oneSide, select-one, select-zero, visits-leaf, visits-one, visits-zero}
 use Rattle.wavelet.proofs.Ends.{mid-is}
 use Rattle.wavelet.proofs.Walking.{nodeTest, is-node, is-leaf, leaf-only, end-leaf, end-short, end-cut, end-on}
-use Rattle.wavelet.proofs.Sides.{zero-held, one-held, path-side, node-need, node-under}
+use Rattle.wavelet.proofs.Sides.{side, held-side, select-side, visits-side, path-side, node-need, node-under}
 use Rattle.wavelet_select.specs.Selecting.{Selects}
 use Rattle.wavelet_select.specs.declared.Use.{Use}
-
--- what a bit chooses of two
-abbrev side : {A : Type 0} → Bool → A → A → A
-side false z o = z
-side true z o = o
 
 -- a row of one number
 place-same : (k n j : ℕ) → min j k ≡ place true j (uses n (replicate k n))
 place-same k n j = elim (decLe k j) [ yes h ↦ omega (arith, select-same-none k n j h) | no h ↦ omega (arith, select-same k n j (omega arith)) ]
-
--- where n stands, and its visits, on its side of a node
-module _ (m : ℕ) (q : List Bool) (z o : Tree) (u : Under m q (node q z o)) (n : ℕ) where
-  place-side : (k : ℕ) (b : List Bool) → need (node q z o) k b ≤ length b → (a : Bool) → begins (q ++ (a ∷ [])) (codeword m n) ≡ true
-      → (j : ℕ) → place true j (uses n (held (node q z o) k b)) ≡ place a (place true j (uses n (side a (zeroSide z k b) (oneSide z o k b)))) (take k b)
-  place-side k b d false = select-zero m q q z o k b u d n
-  place-side k b d true = select-one m q q z o k b u d n
-
-  visits-side : (a : Bool) → begins (q ++ (a ∷ [])) (codeword m n) ≡ true → visitsIn m (node q z o) n ≡ 1 + visitsIn m (side a z o) n
-  visits-side false g = omega (arith, visits-zero m q q z o u n g)
-  visits-side true g = omega (arith, visits-one m q q z o u n g)
 
 module _ (m N : ℕ) (v : Spot) (k : ℕ) (s : List ℕ) (at x j : ℕ) (here : at ≤ 8 * length s) where
   -- a leaf
@@ -81,15 +65,6 @@ module _ (m N : ℕ) (v : Spot) (k : ℕ) (s : List ℕ) (at x j : ℕ) (here : 
         all-end : Ends m N v k s at end
         all-end = end-on m N v k s at here node-is fits e ones mid y ey mids low end w ew last
 
-        -- the numbers there
-        row-is : (q : List Bool) (z o : Tree) → mid ≡ ends z (k - e) (unpack s) (at + k) → (a : Bool)
-            → side a (zeroSide z k (drop at (unpack s))) (oneSide z o k (drop at (unpack s)))
-            ≡ held (side a z o) (side a (k - e) e) (drop (side a (at + k) mid) (unpack s))
-        row-is q z o zs false = zero-held k (unpack s) at e in-bits ones z
-        row-is q z o zs true =
-            one-held k (unpack s) at e in-bits ones z o mid
-            (mid-is q z o k (unpack s) at e in-bits ones mid zs (omega (arith, unpack-length s)))
-
         -- what was found there
         module _ (found : Use) (inside : end ≤ 8 * length s → found .end ≤ 8 * length s)
             (below : Selects m N (side a y w) (side a (k - e) e) s (side a (at + k) mid) x j found)
@@ -117,11 +92,12 @@ module _ (m N : ℕ) (v : Spot) (k : ℕ) (s : List ℕ) (at x j : ℕ) (here : 
               node-need (node q z o) k b at end (all-end f q h ∙ ap (λ (t : Tree). ends t k b at) (fork .tree-is)) (omega (arith, unpack-length s)) in
               let zs : mid ≡ ends z (k - e) b (at + k) = (rw ey at mids) (fork .g) (q ++ (false ∷ [])) (fork .zero-side) in
               let g1 = path-side h (is-node m N v node-is .0) deep n x path lo g a way in
+              let row = held-side k b at e in-bits ones z o mid (mid-is q z o k b at e in-bits ones mid zs (omega (arith, unpack-length s))) a in
               let r = there f q fork (inside l) n path lo hi a g1 below in
               rw (fork .tree-is) (
-                places ∙ ap (λ (i : ℕ). place a i (take k (drop at b))) (r .0 ∙ ap (λ (l : List ℕ). place true j (uses n l)) (sym (row-is q z o zs a)))
-                    ∙ sym (place-side m q z o u n k (drop at b) d a g1 j),
-                omega (arith, r .1, visits-side m q z o u n a g1),
+                places ∙ ap (λ (i : ℕ). place a i (take k (drop at b))) (r .0 ∙ ap (λ (l : List ℕ). place true j (uses n l)) (sym row))
+                    ∙ sym (select-side m q z o u k (drop at b) d a n g1 j),
+                omega (arith, r .1, visits-side m q z o u a n g1),
               )
 
           pub climb-side : Selects m N v k s at x j (record { end = end; place = p; visits = found .visits })

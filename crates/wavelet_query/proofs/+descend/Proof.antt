@@ -1,5 +1,5 @@
 use mathlib.Core.Path.{_≡_, sym, _∙_}
-use mathlib.Core.Bool.{true, false}
+use mathlib.Core.Bool.{Bool, true, false}
 use Prim.Native.Nat.{ℕ, suc, _+_, _-_, _*_, _<_, _≤_}
 use native.Mathlib.Omega.{arith}
 use lib.ListN.{length}
@@ -14,8 +14,8 @@ use Rattle.wavelet.specs.Questions.{mostAlphabet}
 use Rattle.wavelet.specs.Walk.{Low}
 use Rattle.wavelet.proofs.Spots.{shallow}
 use Rattle.wavelet.proofs.Walking.{nodeTest, is-node, less, end-short, end-cut}
-use Rattle.wavelet.proofs.Sides.{place-fits}
-use Rattle.wavelet_query.proofs.Descending.{find-leaf, find-none, find-one, find-zero}
+use Rattle.wavelet.proofs.Sides.{side, place-fits}
+use Rattle.wavelet_query.proofs.Descending.{find-leaf, find-none, find-side}
 use Rattle.wavelet_query.proofs.descend.Reads as descend
 use Rattle.wavelet_query.proofs.descend.Kinds as descend-kinds
 use Rattle.wavelet_query.proofs.+descend.Lts-descend as descend-lts
@@ -84,13 +84,13 @@ side-legal t c =
     let n = small t c in
     (p .0, p .1, p .3, omega (arith, n .1, p .2), omega (arith, n .0))
 
-counts : (t : ℕ) (c : descend-lts.After-ones-in2 (known t) (descend-at t) descend.Post)
-    → let a = c .before .before .before .before .before .before .args in
-    (c .ones-in2 .result ≤ c .before .ones-in .result) × (a .i - c .ones-in2 .result ≤ a .k - c .before .ones-in .result)
+counts : (t : ℕ) (c : descend-lts.After-ones-in2 (known t) (descend-at t) descend.Post) (a : Bool)
+    → let z = c .before .before .before .before .before .before .args in
+    side a (z .i - c .ones-in2 .result) (c .ones-in2 .result) ≤ side a (z .k - c .before .ones-in .result) (c .before .ones-in .result)
 counts t c =
-    let a = c .before .before .before .before .before .before .args in
-    place-fits (a .k) (unpack (a .b .now)) (a .at) _ (omega (arith, fits t (c .before .before), unpack-length (a .b .now))) (c .before .ones-in .ensures .0)
-    (a .i) _ (c .before .before .before .before .before .before .pre .1 .6) (c .ones-in2 .ensures .0)
+    let z = c .before .before .before .before .before .before .args in
+    place-fits (z .k) (unpack (z .b .now)) (z .at) _ (omega (arith, fits t (c .before .before), unpack-length (z .b .now))) (c .before .ones-in .ensures .0)
+    (z .i) _ (c .before .before .before .before .before .before .pre .1 .6) (c .ones-in2 .ensures .0)
 
 descend-is-node-requires : (t : ℕ) → descend-lts.Need-is-node-requires (known t) (descend-at t) descend.Post
 descend-is-node-requires t c κs = tt
@@ -164,7 +164,7 @@ descend-descend-requires t c κs =
     let z = y .before .before .before .before .before .before .before .before .before .before in
     let p = z .pre .1 in (
       less (z .args .order) _ (z .args .v) true _ (z .pre .0) (y .before .before .side2 .ensures .0) (omega (arith, p .0)) (small t (y .before .before .before .before .before .before .before)),
-      (p .0, p .1, p .2, y .before .before .side2 .ensures .1, p .4, omega (arith, c .if4 .left), counts t (y .before .before .before .before) .0),
+      (p .0, p .1, p .2, y .before .before .side2 .ensures .1, p .4, omega (arith, c .if4 .left), counts t (y .before .before .before .before) true),
     )
 
 descend-sub-descend : (t : ℕ) → descend-lts.Need-sub-descend (known t) (descend-at t) descend.Post
@@ -181,7 +181,7 @@ descend-descend-requires-2 t c κs =
     let z = c .before .before .before .before .before .before .before .before .before .before in
     let p = z .pre .1 in (
       less (z .args .order) _ (z .args .v) false _ (z .pre .0) (c .before .before .before .side .ensures .0) (omega (arith, p .0)) (small t (c .before .before .before .before .before .before .before)),
-      (p .0, p .1, p .2, c .before .before .before .side .ensures .1, p .4, fits t (c .before .before .before .before .before .before), counts t (c .before .before .before .before) .1),
+      (p .0, p .1, p .2, c .before .before .before .side .ensures .1, p .4, fits t (c .before .before .before .before .before .before), counts t (c .before .before .before .before) false),
     )
 
 descend-returns-4 : (t : ℕ) → descend-lts.Need-returns-4 (known t) (descend-at t) descend.Post
@@ -204,18 +204,19 @@ descend-returns-5 t c =
     let y = c .before .before .before in
     let z = y .before .before .before .before .before .before .before .before .before .before in
     let p = z .pre .1 in
-    find-one _ _ (z .args .v) _ _ _ _ _ (p .5) (p .6) (node-is t (y .before .before .before .before .before .before .before)) (deep t (y .before .before .before .before .before .before .before)) (fits t (y .before .before .before .before .before .before)) _ (y .before .before .before .before .before .ones-in .ensures .0) _
-    (y .before .before .before .before .ones-in2 .ensures .0) (sym (y .before .takes-one .ensures) ∙ y .if3 .taken) _ (c .before .if4 .left) _ (y .before .before .before .side .ensures .0)
-    (c .before .before .end-of .ensures) _ _ (y .before .before .side2 .ensures .0) (c .descend .ensures)
+    find-side _ _ (z .args .v) _ _ _ _ _ (p .5) (p .6) (node-is t (y .before .before .before .before .before .before .before)) (deep t (y .before .before .before .before .before .before .before)) (fits t (y .before .before .before .before .before .before)) _ (y .before .before .before .before .before .ones-in .ensures .0) _
+    (y .before .before .before .before .ones-in2 .ensures .0) _ (c .before .if4 .left) _ (y .before .before .before .side .ensures .0) (c .before .before .end-of .ensures)
+    _ _ (y .before .before .side2 .ensures .0) (c .descend .ensures .0) true (sym (y .before .takes-one .ensures) ∙ y .if3 .taken) (c .descend .result) (λ l. l) (c .descend .ensures)
 
 descend-returns-6 : (t : ℕ) → descend-lts.Need-returns-6 (known t) (descend-at t) descend.Post
 descend-returns-6 t c =
     let y = c .before .before .before .before in
     let z = y .before .before .before .before .before .before .before .before .before .before in
     let p = z .pre .1 in
-    find-zero _ _ (z .args .v) _ _ _ _ _ (p .5) (p .6) (node-is t (y .before .before .before .before .before .before .before)) (deep t (y .before .before .before .before .before .before .before)) (fits t (y .before .before .before .before .before .before)) _ (y .before .before .before .before .before .ones-in .ensures .0) _
-    (y .before .before .before .before .ones-in2 .ensures .0) (sym (y .before .takes-one .ensures) ∙ y .if3 .left) _ _ (y .before .before .before .side .ensures .0)
-    (c .before .before .before .descend2 .ensures) (c .before .if5 .left) _ (y .before .before .side2 .ensures .0) _ (c .end-of2 .ensures)
+    find-side _ _ (z .args .v) _ _ _ _ _ (p .5) (p .6) (node-is t (y .before .before .before .before .before .before .before)) (deep t (y .before .before .before .before .before .before .before)) (fits t (y .before .before .before .before .before .before)) _ (y .before .before .before .before .before .ones-in .ensures .0) _
+    (y .before .before .before .before .ones-in2 .ensures .0) _ (c .before .if5 .left) _ (y .before .before .before .side .ensures .0) (c .before .before .before .descend2 .ensures .0)
+    _ _ (y .before .before .side2 .ensures .0) (c .end-of2 .ensures) false (sym (y .before .takes-one .ensures) ∙ y .if3 .left) (c .before .before .before .descend2 .result)
+    (λ l. omega (arith, c .before .if5 .left)) (c .before .before .before .descend2 .ensures)
 
 pub +descend-spec : {M : Type 1} → statement M
 +descend-spec = close μ-descend λ t. descend-lts.spec (known t)
