@@ -240,7 +240,7 @@ fn first_check(order: u64) {
 
 // ---- Rows of 4,096 numbers ----
 
-// In an alphabet of two the only node parts number 1, whose codewords begin with a 1, from number 2.
+// In an alphabet of two the only node parts number 1, whose codeword begins with a 1, from number 2.
 fn long(order: u64) {
     let name = "4096 ones";
     for room in [512, 511, 513] {

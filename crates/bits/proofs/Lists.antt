@@ -1,12 +1,12 @@
 -- Lists of any elements: what the library does not have.
 use mathlib.Core.Path.{_≡_, refl, sym, ap, _∙_}
 use mathlib.Core.List.{List, [], _∷_, _++_, append-assoc, map, map-append, flatten}
-use Prim.Native.Nat.{ℕ, suc, _+_, _<_}
+use Prim.Native.Nat.{ℕ, zero, suc, _+_, _≤_, _<_}
 use native.Mathlib.Omega.{arith}
 use native.Mathlib.Numerals.{add-one}
 use native.Mathlib.Nat.{zero-add, suc-add}
 use lib.ListN.{length, getD, take, drop, set}
-use lib.Seq.{paste-suc}
+use lib.Seq.{take-take, paste-suc}
 
 module _ {A : Type 0} where
   flatten-append : (x y : List (List A)) → flatten (x ++ y) ≡ flatten x ++ flatten y
@@ -21,6 +21,13 @@ module _ {A : Type 0} where
   set-append-add [] y n a = ap (λ (k : ℕ). set y k a) (zero-add n)
   set-append-add (b ∷ x) y n a =
       ap (λ (k : ℕ). set (b ∷ (x ++ y)) k a) (suc-add (length x) n) ∙ ap (λ (r : List A). b ∷ r) (set-append-add x y n a)
+
+  -- a part of a part
+  pub take-inner : (k o n : ℕ) (l : List A) → o + k ≤ n → take k (drop o (take n l)) ≡ take k (drop o l)
+  take-inner k zero n l h = take-take k n l (omega arith)
+  take-inner k (suc o) zero l h = absurd (omega arith)
+  take-inner k (suc o) (suc n) [] h = refl
+  take-inner k (suc o) (suc n) (x ∷ l) h = take-inner k o n l (omega arith)
 
   -- a loop that copies: one element more
   pub copy-more : (s d : List A) (i : ℕ) (x z : A) → i < length s → i < length d → getD s i z ≡ x

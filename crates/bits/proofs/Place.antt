@@ -9,6 +9,7 @@ use native.Mathlib.Decide.{decLe}
 use lib.ListN.{length, take, drop, length-take, length-drop, take-append-drop}
 use lib.Seq.{length-take-le, take-all, drop-at, take-add, take-take, drop-drop}
 use Rattle.bits.specs.Bits.{unpack, worth, is, count, place}
+use Rattle.bits.proofs.Lists.{take-inner}
 use Rattle.bits.proofs.Bytes.{unpack-drop}
 
 -- what holds of bits b before the bits c, by cases of the first: there is none, it is of the kind, and searched for or not, or it is not of the kind.
@@ -40,7 +41,7 @@ place-skip v j b c h =
     (j - count v b) (omega arith)
 
 -- bits that have more of it are not
-pub place-front : (v : Bool) (j : ℕ) (b c : List Bool) → j < count v b → place v j (b ++ c) < length b
+place-front : (v : Bool) (j : ℕ) (b c : List Bool) → j < count v b → place v j (b ++ c) < length b
 place-front v j b c =
     along v c (λ j l n p. j < n → p < l) (λ j h. absurd (omega arith)) (λ l n h. omega arith)
     (λ j l n p i h. omega (arith, i (omega arith))) (λ j l n p i h. omega (arith, i (omega arith))) j b
@@ -59,13 +60,13 @@ place-within v j b = elim (decLe (count v b) j) [ yes h ↦ omega (arith, place-
 
 -- ## After the first n bits, and among them
 
-pub place-after : (v : Bool) (j n : ℕ) (b : List Bool) → n ≤ length b → count v (take n b) ≤ j
+place-after : (v : Bool) (j n : ℕ) (b : List Bool) → n ≤ length b → count v (take n b) ≤ j
     → place v j b ≡ n + place v (j - count v (take n b)) (drop n b)
 place-after v j n b l h =
     ap (place v j) (sym (take-append-drop n b)) ∙ place-skip v j (take n b) (drop n b) h
     ∙ ap (λ (k : ℕ). k + place v (j - count v (take n b)) (drop n b)) (length-take-le n b l)
 
-pub place-before : (v : Bool) (j n : ℕ) (b : List Bool) → j < count v (take n b) → place v j b < n
+place-before : (v : Bool) (j n : ℕ) (b : List Bool) → j < count v (take n b) → place v j b < n
 place-before v j n b h = omega (arith, rw take-append-drop at (place-front v j (take n b) (drop n b) h), length-take n b)
 
 -- where fewer than n bits are left, or the next n hold the bit searched for
@@ -88,13 +89,7 @@ part-bits s at =
 -- a step of n bits at bit `at` of k bits
 module _ (u : List Bool) (from k at n : ℕ) (within : from + k ≤ length u) (fits : at + n ≤ k) where
   pub step-bits : take n (drop at (take k (drop from u))) ≡ take n (drop (from + at) u)
-  step-bits =
-      let w : List Bool = drop from u in
-      let e : k ≡ at + (k - at) = omega arith in
-      let l : length (take at w) ≡ at = length-take-le at w (omega (arith, length-drop from u)) in
-      ap (λ (i : ℕ). take n (drop at (take i w))) e ∙ ap (λ (b : List Bool). take n (drop at b)) (take-add at (k - at) w)
-      ∙ ap (take n) (drop-at (take at w) (take (k - at) (drop at w)) at l) ∙ take-take n (k - at) (drop at w) (omega arith)
-      ∙ ap (take n) (drop-drop at from u)
+  step-bits = take-inner n at k (drop from u) (omega arith) ∙ ap (take n) (drop-drop at from u)
 
   pub step-skipped : (v : Bool) (j r : ℕ) → r ≡ count v (take n (drop (from + at) u)) → r ≤ j
       → at + place v j (drop at (take k (drop from u))) ≡ at + n + place v (j - r) (drop (at + n) (take k (drop from u)))

@@ -176,16 +176,6 @@ pub fn scan(order: usize, s: &[u8], from: usize, to: usize) -> ScanAnswer
     scan_into(order, s, from, to, &mut row)
 }
 
-// The first n elements of one list over those of another. The readers check that there is room.
-pub fn copy(to: &mut [u32], row: &[u32], n: usize)
-    requires { ⌜ (n ≤ length (now row)) × (n ≤ length (now to)) ⌝ }
-    ensures { λ r. ⌜ now (to .exit) ≡ take n (now (row .entry)) ++ drop n (now (to .entry)) ⌝ }
-{
-    for i in 0..n {
-        to[i] = row[i];
-    }
-}
-
 // Reads an encoding. The row goes to a list of its own first, as a refusal must leave the output as it was.
 pub fn read(order: usize, s: &[u8], out: &mut [u32]) -> ReadAnswer
     ensures { λ r. ⌜ ReadPromise order (now (s .entry)) (now (out .entry)) r (now (out .exit)) ⌝ }
@@ -198,7 +188,7 @@ pub fn read(order: usize, s: &[u8], out: &mut [u32]) -> ReadAnswer
             if out.len() < count {
                 return ReadAnswer::Room;
             }
-            copy(out, &row, count);
+            lists::copy(out, &row, count);
             ReadAnswer::Row(count)
         }
         ScanAnswer::Refused(r) => ReadAnswer::Refused(r),

@@ -112,7 +112,7 @@ pub fn read(s: &[u8], out: &mut [u32]) -> decoder::ReadAnswer
             if out.len() < count {
                 return decoder::ReadAnswer::Room;
             }
-            decoder::copy(out, &row, count);
+            lists::copy(out, &row, count);
             decoder::ReadAnswer::Row(count)
         }
         RowAnswer::Refused(r) => decoder::ReadAnswer::Refused(r),

@@ -15,8 +15,8 @@ use Rattle.fibonacci.specs.Tables.{Order}
 use Rattle.fibonacci.proofs.Checks.{both, order-is, number-is, not-both, refused-same, check-passed}
 use Rattle.wavelet.specs.Nodes.{tree}
 use Rattle.wavelet.specs.Bitmaps.{need, isIndex}
-use Rattle.wavelet.specs.Questions.{mostAlphabet, mostIndex, checkTree, ask}
-use Rattle.wavelet.specs.Walk.{At, Low, ends, Ends, Exact}
+use Rattle.wavelet.specs.Questions.{mostAlphabet, checkTree, ask}
+use Rattle.wavelet.specs.Walk.{At, Low, ends, Ends, Exact, mostIndex, Root}
 use Rattle.wavelet.specs.Answers.{treeRefusal}
 use Rattle.wavelet.specs.declared.Spot.{Spot}
 use Rattle.wavelet.specs.declared.Refusal.{Refusal}
@@ -72,10 +72,10 @@ module _ {m N k : ℕ} (p : Passed m N k) where
   legal-alphabet = number-is mostAlphabet N (p .alphabet)
 
   -- where a walk begins
-  pub at-root : {v : Spot} → (v .depth ≡ 0) × (v .next ≡ 2) × (v .ones ≡ 0) × (v .number ≡ 1) → At m N (m + N) [] v
+  pub at-root : {v : Spot} → Root v → At m N (m + N) [] v
   at-root {v} e = rw (e .0, e .1, e .2, e .3) (stands-root m N (omega (arith, legal-order)) (legal-alphabet .0))
 
-  pub low-root : {v : Spot} → (v .depth ≡ 0) × (v .next ≡ 2) × (v .ones ≡ 0) × (v .number ≡ 1) → Low m v
+  pub low-root : {v : Spot} → Root v → Low m v
   unfolding first
   low-root {v} e = rw (e .0, e .1) (omega arith)
 
@@ -88,7 +88,7 @@ module _ {m N k : ℕ} (p : Passed m N k) where
         simp (ne-eqb (byteCount (need (tree m N) k (unpack s))) (length s) (λ e. omega (arith, most, p .count)))
 
     -- by where the walk's bitmaps end
-    module _ {v : Spot} (root : (v .depth ≡ 0) × (v .next ≡ 2) × (v .ones ≡ 0) × (v .number ≡ 1)) (end : ℕ) (walked : Ends m N v k s 0 end) where
+    module _ {v : Spot} (root : Root v) (end : ℕ) (walked : Ends m N v k s 0 end) where
       ends-need : end ≡ min (need (tree m N) k (unpack s)) (suc (length (unpack s)))
       unfolding ends tree
       ends-need = walked (m + N) [] (at-root root) ∙ omega arith

@@ -1,36 +1,38 @@
 -- What holds of the row index, for every order and alphabet.
 use mathlib.Core.Path.{_≡_, sym, subst}
-use mathlib.Core.Bool.{true}
-use mathlib.Core.List.{List}
-use Prim.Native.Nat.{ℕ, _≤_, _<_}
+use mathlib.Core.Bool.{true, not}
+use mathlib.Core.List.{List, []}
+use Prim.Native.Nat.{ℕ, _≤_}
 use native.Mathlib.Omega.{arith}
+use lib.Dec.{leb, ltb, eqb}
 use lib.ListN.{length, getD}
-use borrow.Author.Tests.{lt-leb, le-ltb, ne-eqb}
-use Rattle.fibonacci.specs.Calls.{accepted, isNumber, Legal}
-use Rattle.wavelet.specs.Nodes.{visits}
+use Rattle.fibonacci.specs.Calls.{accepted, check, isNumber, Legal}
+use Rattle.wavelet.specs.Nodes.{tree, visits}
 use Rattle.wavelet.specs.Bitmaps.{index, isIndex, rowOf}
 use Rattle.wavelet.specs.Questions.{checkTree, rankIn, selectIn, extract, rank, select}
 use Rattle.wavelet.specs.Demand.{IndexDemand}
-use Rattle.wavelet.proofs.Forks.{tree-under, tree-has, tree-only, nodes-are, node-count, node-digits}
+use Rattle.wavelet.proofs.Nodes.{tree-under, tree-has, tree-only, nodes-are, nodes-once, node-count, node-digits}
 use Rattle.wavelet.proofs.Held.{index-held, held-index, one-row}
 
 -- the questions asked of bytes that are the index of a row
 module _ (m N k : ℕ) (s row : List ℕ) (good : isIndex m N k s ≡ true) (same : rowOf m N k s ≡ row) where
-  extract-row : (i : ℕ) → i < k → extract m N k s i ≡ checkTree m N k (accepted (getD row i 0, visits m N (getD row i 0)))
+  extract-row : (i : ℕ) → extract m N k s i ≡ checkTree m N k (check 8 0 (leb k i) (accepted (getD row i 0, visits m N (getD row i 0))))
   unfolding extract
-  extract-row i h = simp (good, same, lt-leb k i h)
+  extract-row i = simp (good, same)
 
-  rank-row : (n i : ℕ) → isNumber N n ≡ true → i ≤ k → rank m N k s n i ≡ checkTree m N k (accepted (rankIn row n i, visits m N n))
+  rank-row : (n i : ℕ)
+      → rank m N k s n i ≡ checkTree m N k (check 10 0 (not (isNumber N n)) (check 8 0 (ltb k i) (accepted (rankIn row n i, visits m N n))))
   unfolding rank
-  rank-row n i l h = simp (good, same, l, le-ltb k i h)
+  rank-row n i = simp (good, same)
 
-  select-row : (n j : ℕ) → isNumber N n ≡ true → 1 ≤ j → j ≤ rankIn row n k
-      → select m N k s n j ≡ checkTree m N k (accepted (selectIn row n j, visits m N n))
+  select-row : (n j : ℕ) → select m N k s n j
+      ≡ checkTree m N k (check 10 0 (not (isNumber N n)) (check 8 0 (eqb j 0) (check 12 0 (ltb (rankIn row n k) j) (accepted (selectIn row n j, visits m N n)))))
   unfolding select
-  select-row n j l h f = simp (good, same, l, ne-eqb j 0 (λ e. omega arith), le-ltb (rankIn row n k) j f)
+  select-row n j = simp (good, same)
 
-pub index-demand : (m N : ℕ) → 1 ≤ m → 1 ≤ N → IndexDemand m N
-index-demand m N p h =
+pub index-demand : (m N : ℕ) → 2 ≤ m → 1 ≤ N → IndexDemand m N
+index-demand m N two h =
+    let p : 1 ≤ m = omega arith in
     let u = tree-under m N p h in
     let has = tree-has m N p h in
     let only = tree-only m N p h in
@@ -40,6 +42,7 @@ index-demand m N p h =
     λ k s row l e i. sym (one-row m N u has only k s row l e i) in
     record {
       nodes-are = nodes-are m N p h;
+      nodes-once = nodes-once m [] (tree m N) u;
       node-count = node-count m N p h;
       node-digits = node-digits m N p h;
       index-held = index-held m N u has only;

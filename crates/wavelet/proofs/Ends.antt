@@ -8,18 +8,12 @@ use lib.ListN.{length, take, drop, length-take, length-drop}
 use lib.Seq.{take-take, drop-drop}
 use Rattle.bits.specs.Bits.{unpack, count}
 use Rattle.bits.proofs.Count.{count-both}
+use Rattle.bits.proofs.Lists.{take-inner}
 use Rattle.bits.proofs.Bytes.{unpack-drop, unpack-take}
 use Rattle.wavelet.specs.Nodes.{Tree, leaf, node}
 use Rattle.wavelet.specs.Bitmaps.{need}
 use Rattle.wavelet.specs.Walk.{ends}
 use Rattle.wavelet.proofs.Trees.{need-none}
-
--- a part of a part
-inner : (k o n : ℕ) (l : List Bool) → o + k ≤ n → take k (drop o (take n l)) ≡ take k (drop o l)
-inner k zero n l h = take-take k n l (omega arith)
-inner k (suc o) zero l h = absurd (omega arith)
-inner k (suc o) (suc n) [] h = refl
-inner k (suc o) (suc n) (x ∷ l) h = inner k o n l (omega arith)
 
 -- k bits from bit `at` on, in the bytes that hold them
 pub slice-bits : (s : List ℕ) (at k : ℕ)
@@ -31,7 +25,7 @@ slice-bits s at k =
     unpack-take (drop (at / 8) s) n ∙ ap (take (8 * n)) (unpack-drop s (at / 8)) in
     let there : 8 * (at / 8) + at % 8 ≡ at = omega arith in
     ap (λ (l : List Bool). take k (drop (at % 8) l)) whole
-    ∙ inner k (at % 8) (8 * n) (drop (8 * (at / 8)) b) (omega arith)
+    ∙ take-inner k (at % 8) (8 * n) (drop (8 * (at / 8)) b) (omega arith)
     ∙ ap (take k) (drop-drop (at % 8) (8 * (at / 8)) b ∙ ap (λ (i : ℕ). drop i b) there)
 
 -- no numbers, or a leaf
@@ -69,7 +63,7 @@ module _ (p : List Bool) (z o : Tree) (k : ℕ) (b : List Bool) (at e : ℕ) whe
       unfolding ends
       mid-is = omega arith
 
-      pub mid-drop : drop (need z (k - e) (drop (at + k) b)) (drop (at + k) b) ≡ drop mid b
+      mid-drop : drop (need z (k - e) (drop (at + k) b)) (drop (at + k) b) ≡ drop mid b
       mid-drop = drop-drop (need z (k - e) (drop (at + k) b)) (at + k) b ∙ ap (λ (i : ℕ). drop i b) (sym mid-is)
 
       pub ends-on : ends o e b mid ≡ ends (node p z o) k b at

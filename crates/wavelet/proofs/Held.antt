@@ -115,7 +115,7 @@ unfolding bitmap
 bitmap-length m p row = length-map (at m p row) (bitAfter m p)
 
 -- the numbers below a node are those on its sides, merged by its bitmap
-pub at-sides : (m : ℕ) (p : List Bool) (row : List ℕ) → All (Sided m p) (at m p row)
+at-sides : (m : ℕ) (p : List Bool) (row : List ℕ) → All (Sided m p) (at m p row)
     → (length (at m (p ++ (false ∷ [])) row) ≡ count false (bitmap m row p)) × (length (at m (p ++ (true ∷ [])) row) ≡ count true (bitmap m row p))
     × (merge (bitmap m row p) (at m (p ++ (false ∷ [])) row) (at m (p ++ (true ∷ [])) row) ≡ at m p row)
 unfolding bitmap
@@ -259,7 +259,7 @@ pack-front s n bytes e c =
     ∙ ap (λ (l : List Bool). b ++ l) (sym (none-zeros (drop n (unpack s)) c ∙ ap (λ (k : ℕ). replicate k false) fill)) ∙ take-append-drop n (unpack s))
 
 -- every codeword begins with nothing
-at-all : (m : ℕ) (row : List ℕ) → at m [] row ≡ row
+pub at-all : (m : ℕ) (row : List ℕ) → at m [] row ≡ row
 at-all m row = those-all (goes m []) row (all row)
   where
     all : (row : List ℕ) → All (λ n. goes m [] n ≡ true) row

@@ -3,7 +3,7 @@ pub mod Those
 pub mod Pruned
 pub mod Merging
 pub mod Trees
-pub mod Forks
+pub mod Nodes
 pub mod Held
 pub mod Demand
 pub mod Spots

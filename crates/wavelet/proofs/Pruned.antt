@@ -261,14 +261,14 @@ high-number m N (suc k) q n p c h a b e =
 -- ## A walk at a node, and elsewhere
 
 -- At a node of the tree: g bits are left after the next, and where a walk stands on the 0 side and on the 1 side
-pub record Forked (m N f : ℕ) (q : List Bool) (s w r c : ℕ) : Type 0 where
+pub record AtNode (m N f : ℕ) (q : List Bool) (s w r c : ℕ) : Type 0 where
   pub g : ℕ
   pub fuel-is : f ≡ suc g
   pub tree-is : prune m N f q ≡ node q (prune m N g (q ++ (false ∷ []))) (prune m N g (q ++ (true ∷ [])))
   pub zero-side : Stands m N g (q ++ (false ∷ [])) (s + 1) (w + F m (s + 1)) 0 w
   pub one-side : Stands m N g (q ++ (true ∷ [])) (s + 1) (w + F m (s + 1) + F m (s + 1)) (r + 1) c
 
-pub stands-node : {m N f : ℕ} {q : List Bool} {s w r c : ℕ} → Stands m N f q s w r c → r < m → w ≤ N → Forked m N f q s w r c
+pub stands-node : {m N f : ℕ} {q : List Bool} {s w r c : ℕ} → Stands m N f q s w r c → r < m → w ≤ N → AtNode m N f q s w r c
 stands-node {m} {N} {f} {q} {s} {w} {r} {c} a low h = go (a .k) f (a .all) (a .finished) (a .number-is) (a .fuel)
   where
     q0 : List Bool
@@ -277,7 +277,7 @@ stands-node {m} {N} {f} {q} {s} {w} {r} {c} a low h = go (a .k) f (a .all) (a .f
     q1 : List Bool
     q1 = q ++ (true ∷ [])
 
-    go : (k f : ℕ) → k + r ≡ m → Codeword m (q ++ ones k) → number m (q ++ ones k) ≡ c → (suc N - w) + m ≤ f → Forked m N f q s w r c
+    go : (k f : ℕ) → k + r ≡ m → Codeword m (q ++ ones k) → number m (q ++ ones k) ≡ c → (suc N - w) + m ≤ f → AtNode m N f q s w r c
     go zero f e d v b = absurd (omega arith)
     go (suc k) zero e d v b = absurd (omega arith)
     go (suc k) (suc g) e d v b =

@@ -16,7 +16,7 @@ use Rattle.wavelet.specs.Walk.{At, ends, Path}
 use Rattle.wavelet.specs.declared.Spot.{Spot}
 use Rattle.wavelet.proofs.Strings.{begins-next}
 use Rattle.wavelet.proofs.Pruned.{stands-longer}
-use Rattle.wavelet.proofs.Forks.{stands-under}
+use Rattle.wavelet.proofs.Nodes.{stands-under}
 use Rattle.wavelet.proofs.Trees.{Under, afterZero, zeroSide, oneSide, extract-one, extract-zero, rank-one, rank-zero, select-one, select-zero, visits-one, visits-zero}
 use Rattle.wavelet.proofs.Ends.{zeros}
 

@@ -159,7 +159,7 @@ pub visits-leaf : (m x n : ℕ) → visitsIn m (leaf x) n ≡ 0
 unfolding nodes those
 visits-leaf m x n = refl
 
-nodes-begin : (m : ℕ) (q : List Bool) (t : Tree) → Under m q t → All (λ r. begins q r ≡ true) (nodes t)
+pub nodes-begin : (m : ℕ) (q : List Bool) (t : Tree) → Under m q t → All (λ r. begins q r ≡ true) (nodes t)
 unfolding nodes
 nodes-begin m q (leaf n) u = tt
 nodes-begin m q (node p z o) u =

@@ -1,13 +1,14 @@
 -- What holds of the row index for every order m and alphabet N (paper 01, "The row index"; demand 2: the index answers what the row itself would answer).
 use mathlib.Core.Path.{_≡_}
-use mathlib.Core.Bool.{Bool, true, false}
-use mathlib.Core.List.{List, _∷_, _++_}
+use mathlib.Core.Bool.{Bool, true, false, not}
+use mathlib.Core.List.{List, [], _∷_, _++_}
 use mathlib.Core.Logic.{_↔_}
-use Prim.Native.Nat.{ℕ, suc, _≤_, _<_}
+use Prim.Native.Nat.{ℕ, suc, _≤_}
+use lib.Dec.{leb, ltb, eqb}
 use lib.ListN.{length, getD}
 use Rattle.bits.specs.Bits.{Bytes}
 use Rattle.fibonacci.specs.Code.{ones, runs, number}
-use Rattle.fibonacci.specs.Calls.{accepted, isNumber, Legal}
+use Rattle.fibonacci.specs.Calls.{accepted, check, isNumber, Legal}
 use Rattle.wavelet.specs.Nodes.{isNode, tree, nodes, visits}
 use Rattle.wavelet.specs.Bitmaps.{index, isIndex, rowOf}
 use Rattle.wavelet.specs.Questions.{checkTree, rankIn, selectIn, extract, rank, select}
@@ -16,9 +17,15 @@ use Rattle.wavelet.specs.Questions.{checkTree, rankIn, selectIn, extract
 abbrev pub In : List Bool → List (List Bool) → Type 0
 In p ps = (a : List (List Bool)) × (b : List (List Bool)) × (ps ≡ a ++ (p ∷ b))
 
+-- No string stands twice in a list
+abbrev pub Once : List (List Bool) → Type 0
+Once [] = Unit {0}
+Once (p ∷ ps) = (In p ps → ⊥) × Once ps
+
 pub record IndexDemand (m N : ℕ) : Type 0 where
-  -- 1. The tree's nodes are the paper's, and there are N - 1
+  -- 1. The tree's nodes are the paper's, each once, and there are N - 1
   pub nodes-are : (p : List Bool) → In p (nodes (tree m N)) ↔ (isNode m N p ≡ true)
+  pub nodes-once : Once (nodes (tree m N))
   pub node-count : suc (length (nodes (tree m N))) ≡ N
   -- they are the digits of the codewords of 2 .. N
   pub node-digits : (p : List Bool) → (isNode m N p ≡ true) ↔ ((runs m p ≡ 0) × (number m (p ++ (false ∷ ones m)) ≤ N))
@@ -28,10 +35,11 @@ pub record IndexDemand (m N : ℕ) : Type 0 where
   pub held-index : (k : ℕ) (s : List ℕ) → Bytes s → isIndex m N k s ≡ true
       → (length (rowOf m N k s) ≡ k) × Legal N (rowOf m N k s) × (index m N (rowOf m N k s) ≡ s)
   pub one-row : (k : ℕ) (s row : List ℕ) → Legal N row → length row ≡ k → index m N row ≡ s → row ≡ rowOf m N k s
-  -- 4. So the questions, once order, alphabet and length are legal, are answered by any row whose index the bytes are: as that row itself answers them
-  pub extract-row : (k : ℕ) (s row : List ℕ) → Legal N row → length row ≡ k → index m N row ≡ s → (i : ℕ) → i < k
-      → extract m N k s i ≡ checkTree m N k (accepted (getD row i 0, visits m N (getD row i 0)))
-  pub rank-row : (k : ℕ) (s row : List ℕ) → Legal N row → length row ≡ k → index m N row ≡ s → (n i : ℕ) → isNumber N n ≡ true → i ≤ k
-      → rank m N k s n i ≡ checkTree m N k (accepted (rankIn row n i, visits m N n))
-  pub select-row : (k : ℕ) (s row : List ℕ) → Legal N row → length row ≡ k → index m N row ≡ s → (n j : ℕ) → isNumber N n ≡ true → 1 ≤ j
-      → j ≤ rankIn row n k → select m N k s n j ≡ checkTree m N k (accepted (selectIn row n j, visits m N n))
+  -- 4. So the questions are answered by any row whose index the bytes are, as that row itself answers them
+  pub extract-row : (k : ℕ) (s row : List ℕ) → Legal N row → length row ≡ k → index m N row ≡ s → (i : ℕ)
+      → extract m N k s i ≡ checkTree m N k (check 8 0 (leb k i) (accepted (getD row i 0, visits m N (getD row i 0))))
+  pub rank-row : (k : ℕ) (s row : List ℕ) → Legal N row → length row ≡ k → index m N row ≡ s → (n i : ℕ)
+      → rank m N k s n i ≡ checkTree m N k (check 10 0 (not (isNumber N n)) (check 8 0 (ltb k i) (accepted (rankIn row n i, visits m N n))))
+  pub select-row : (k : ℕ) (s row : List ℕ) → Legal N row → length row ≡ k → index m N row ≡ s → (n j : ℕ)
+      → select m N k s n j
+      ≡ checkTree m N k (check 10 0 (not (isNumber N n)) (check 8 0 (eqb j 0) (check 12 0 (ltb (rankIn row n k) j) (accepted (selectIn row n j, visits m N n)))))

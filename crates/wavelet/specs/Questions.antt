@@ -13,10 +13,6 @@ use Rattle.wavelet.specs.Bitmaps.{bitmaps, index, isIndex, rowOf}
 abbrev pub mostAlphabet : ℕ
 mostAlphabet = 4096
 
--- How many bytes an index has at most
-abbrev pub mostIndex : ℕ
-mostIndex = 8192
-
 -- 1 order not 2 to 6; 9 alphabet not 1 to 4,096; 4 more than 4,096 numbers
 abbrev pub checkTree : {A : Type 0} → ℕ → ℕ → ℕ → Outcome A → Outcome A
 checkTree m N k next =

@@ -10,7 +10,11 @@ use Rattle.wavelet.specs.Nodes.{Tree, prune}
 use Rattle.wavelet.specs.Bitmaps.{need, exact}
 use Rattle.wavelet.specs.declared.Spot.{Spot}
 
--- At the string q of the tree of 1 .. N, f bits from its end: q has s bits and ends with r ones, which k more make m; c is the number of the codeword
+-- How many bytes an index has at most, for those contracts; that none has more is a law (`index-long`)
+abbrev pub mostIndex : ℕ
+mostIndex = 8192
+
+-- At the string q of the tree of 1 .. N, after which there are at most f bits more: q has s bits and ends with r ones, which k more make m; c is the number of the codeword
 -- that goes on with those k ones, and w that of the codeword that goes on with a 0 and m ones
 pub record Stands (m N f : ℕ) (q : List Bool) (s w r c : ℕ) : Type 0 where
   pub order : 1 ≤ m
@@ -26,7 +30,11 @@ pub record Stands (m N f : ℕ) (q : List Bool) (s w r c : ℕ) : Type 0 where
 abbrev pub At : ℕ → ℕ → ℕ → List Bool → Spot → Type 0
 At m N f q v = Stands m N f q (v .depth) (v .next) (v .ones) (v .number)
 
--- No codeword as long as that of w has a number below the first number of that length
+-- The empty string
+abbrev pub Root : Spot → Type 0
+Root v = (v .depth ≡ 0) × (v .next ≡ 2) × (v .ones ≡ 0) × (v .number ≡ 1)
+
+-- w is at least the first number of the codewords with as many bits before their last ones
 abbrev pub Low : ℕ → Spot → Type 0
 Low m v = first m (v .depth + 1) ≤ v .next
 

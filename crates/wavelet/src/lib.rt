@@ -8,9 +8,9 @@ ghost use Rattle.bits.specs.Bits.{bitOf, unpack, count};
 ghost use Rattle.fibonacci.specs.Code.{F, first};
 ghost use Rattle.fibonacci.specs.Calls.{accepted, isNumber};
 ghost use Rattle.fibonacci.specs.Tables.{Order, tableRow};
-ghost use Rattle.wavelet.specs.Questions.{mostAlphabet, mostIndex, checkTree};
+ghost use Rattle.wavelet.specs.Questions.{mostAlphabet, checkTree};
 ghost use Rattle.wavelet.specs.Answers.{checkedOutcome};
-ghost use Rattle.wavelet.specs.Walk.{Low, sideOf, Ends, Path, Exact};
+ghost use Rattle.wavelet.specs.Walk.{Low, sideOf, Ends, Path, Exact, mostIndex, Root};
 
 // The limits of the index: the largest alphabet, and how many bytes an index has at most: 16 bits for each of 4,096 numbers.
 pub const MOST_ALPHABET: u64 = 4096;
@@ -70,7 +70,7 @@ pub fn least(a: usize, b: usize) -> usize
 
 // The empty string.
 pub fn root() -> Spot
-    ensures { λ r. ⌜ (r .depth ≡ 0) × (r .next ≡ 2) × (r .ones ≡ 0) × (r .number ≡ 1) ⌝ }
+    ensures { λ r. ⌜ Root r ⌝ }
 {
     Spot {
         depth: 0,
@@ -87,7 +87,8 @@ pub fn is_node(order: usize, limit: u64, v: Spot) -> bool
     v.ones < order && v.next <= limit
 }
 
-// The string with a bit more. A walk calls it where it has seen a node, from the root on.
+// The string with a bit more. A walk calls it where it has seen a node, from the root on. Every operation checks its order before, and takes its row of
+// position values.
 pub fn side(positions: &[u32; 47], order: usize, v: Spot, one: bool) -> Spot
     requires { ⌜ Order order × (now positions ≡ tableRow (F order)) × Low order v × (v .next ≤ mostAlphabet) × (v .ones ≤ order) ⌝ }
     ensures { λ r. ⌜ (r ≡ sideOf order v one) × Low order r ⌝ }

@@ -23,9 +23,10 @@ use Rattle.wavelet.specs.Questions.{checkTree, build, buildInto}
 use Rattle.wavelet.specs.Answers.{treeRefusal}
 use Rattle.wavelet.specs.declared.Refusal.{Refusal}
 use Rattle.wavelet.specs.declared.Refusal.the-variants as refusal
+use Rattle.wavelet.specs.Walk.{Root}
 use Rattle.wavelet.specs.declared.Spot.{Spot}
 use Rattle.fibonacci.proofs.Each.{all-map}
-use Rattle.wavelet.proofs.Those.{those-all}
+use Rattle.wavelet.proofs.Held.{at-all}
 use Rattle.wavelet.proofs.Answering.{legal, Passed, tree-legal, tree-refused, at-root}
 use Rattle.wavelet_build.specs.Building.{Paths, room, Spread}
 
@@ -81,18 +82,6 @@ bytes-front (x ∷ s) t h (suc i) = bytes-front s t (λ j. h (suc j)) i
 
 -- ## The bitmaps of the whole tree
 
--- every codeword begins with nothing
-begins-all : (m : ℕ) (row : List ℕ) → those (λ n. begins [] (codeword m n)) row ≡ row
-begins-all m row = those-all (λ n. begins [] (codeword m n)) row (all row)
-  where
-    all : (row : List ℕ) → All (λ n. begins [] (codeword m n) ≡ true) row
-    all [] = tt
-    all (n ∷ row) = (unfold begins in refl, all row)
-
--- at the empty string
-abbrev Root : Spot → Type 0
-Root v = (v .depth ≡ 0) × (v .next ≡ 2) × (v .ones ≡ 0) × (v .number ≡ 1)
-
 -- there are at most 16 bits for each number
 pub root-room : (v : Spot) (k : ℕ) → Root v → room (v .depth) k ≡ 16 * k
 root-room v k r = ap (λ (s : ℕ). room s k) (r .0)
@@ -105,7 +94,7 @@ unfolding bitmaps tree
 root-spread m N row p numbers v r limit xs before bits after e d s =
     let positive : Positive row = all-map _ (λ n. 1 ≤ n) (λ n h. number-is N n h .0) row numbers in
     let t : Spread m N v xs 0 before bits after = subst (λ (n : ℕ). Spread m n v xs 0 before bits after) e s in
-    let x = t (m + N) [] row positive (at-root p r) (rw (begins-all m row) d) in
+    let x = t (m + N) [] row positive (at-root p r) (rw (at-all m row) d) in
     (x .0 ∙ zero-add _, x .1)
 
 -- ## The answers, check by check

@@ -23,7 +23,7 @@ use Rattle.wavelet.proofs.Those.{all-those, those-pass, those-fail, those-withi
 use Rattle.wavelet.proofs.Pruned.{stands-node, stands-longer}
 use Rattle.wavelet.proofs.Spots.{shallow}
 use Rattle.wavelet.proofs.Walking.{nodeTest, is-node, is-leaf}
-use Rattle.wavelet.proofs.Forks.{stands-under}
+use Rattle.wavelet.proofs.Nodes.{stands-under}
 use Rattle.wavelet.proofs.Held.{at, Sided, sided-longer, joined-node, joined-none}
 use Rattle.wavelet_build.specs.Building.{Paths, bitAfter, parted, room, Spread}
 use Rattle.wavelet_build.proofs.Stretches.{sets-append, those-count}

@@ -9,8 +9,8 @@ ghost use Rattle.bits.specs.Bits.{unpack, count};
 ghost use Rattle.fibonacci.specs.Code.{F, first};
 ghost use Rattle.fibonacci.specs.Calls.{accepted, checkEach};
 ghost use Rattle.fibonacci.specs.Tables.{Order, tableRow};
-ghost use Rattle.wavelet.specs.Questions.{mostAlphabet, mostIndex, build, buildInto};
-ghost use Rattle.wavelet.specs.Walk.{Low};
+ghost use Rattle.wavelet.specs.Questions.{mostAlphabet, build, buildInto};
+ghost use Rattle.wavelet.specs.Walk.{Low, mostIndex};
 ghost use Rattle.wavelet_build.specs.Building.{buildOutcome, filledOutcome, Paths, bitAfter, parted, room, Spread};
 
 // The refusals' numbers are paper 01's.
@@ -29,26 +29,6 @@ pub enum BuildAnswer {
 enum Filled {
     All,
     Fault(usize),
-}
-
-// The first n elements of one list over those of another. Whoever copies has seen that there is room.
-fn copy_words(to: &mut [u32], from: &[u32], n: usize)
-    requires { ⌜ (n ≤ length (now from)) × (n ≤ length (now to)) ⌝ }
-    ensures { λ r. ⌜ now (to .exit) ≡ take n (now (from .entry)) ++ drop n (now (to .entry)) ⌝ }
-{
-    for i in 0..n {
-        to[i] = from[i];
-    }
-}
-
-// The same of bytes.
-fn copy_bytes(to: &mut [u8], from: &[u8], n: usize)
-    requires { ⌜ (n ≤ length (now from)) × (n ≤ length (now to)) ⌝ }
-    ensures { λ r. ⌜ now (to .exit) ≡ take n (now (from .entry)) ++ drop n (now (to .entry)) ⌝ }
-{
-    for i in 0..n {
-        to[i] = from[i];
-    }
 }
 
 // The codewords of a row's numbers, each from the top of a word, up to the first number at fault.
@@ -93,7 +73,7 @@ fn part(words: &mut [u32], spare: &mut [u32], depth: usize, out: &mut [u8], at: 
             zeros += 1;
         }
     }
-    copy_words(&mut words[zeros..], spare, ones);
+    lists::copy(&mut words[zeros..], spare, ones);
     zeros
 }
 
@@ -176,7 +156,7 @@ pub fn build(order: usize, alphabet: u32, row: &[u32], out: &mut [u8]) -> BuildA
                     if out.len() < count {
                         return BuildAnswer::Room;
                     }
-                    copy_bytes(out, &bytes, count);
+                    lists::copy_bytes(out, &bytes, count);
                     BuildAnswer::Built(bits)
                 }
             }

@@ -14,7 +14,7 @@ use Rattle.wavelet.specs.Nodes.{begins, prune, tree, visits}
 use Rattle.wavelet.specs.Bitmaps.{held, isIndex, rowOf}
 use Rattle.wavelet.specs.Questions.{checkTree, rankIn, extract, rank}
 use Rattle.wavelet.specs.Answers.{treeRefusal}
-use Rattle.wavelet.specs.Walk.{Path}
+use Rattle.wavelet.specs.Walk.{Path, Root}
 use Rattle.wavelet.specs.declared.Refusal.{Refusal}
 use Rattle.wavelet.specs.declared.Spot.{Spot}
 use Rattle.wavelet.proofs.Answering.{legal, Passed, tree-refused, at-root, index-end, ask-not, ask-next}
@@ -35,7 +35,7 @@ module _ (m N k : ℕ) (r : Refusal) (e : treeRefusal r ≡ checkTree m N k lega
 
 -- what a walk from the root has found
 module _ {m N k : ℕ} (p : Passed m N k) (s : List ℕ) where
-  arrived : isIndex m N k s ≡ true → {v : Spot} (root : (v .depth ≡ 0) × (v .next ≡ 2) × (v .ones ≡ 0) × (v .number ≡ 1)) (w : Way) (i : ℕ) (r : Found)
+  arrived : isIndex m N k s ≡ true → {v : Spot} (root : Root v) (w : Way) (i : ℕ) (r : Found)
       → Finds m N v k s 0 w i r → Arrived m N [] (tree m N) (unpack s) k w i 0 r
   unfolding tree
   arrived e {v} root w i r found =
@@ -53,7 +53,7 @@ module _ {m N k : ℕ} (p : Passed m N k) (s : List ℕ) where
     unfolding extract
     extract-place e h = sym (ask-next p s _ e ∙ simp (le-leb k i h))
 
-    pub extract-found : isIndex m N k s ≡ true → i < k → {v : Spot} → (v .depth ≡ 0) × (v .next ≡ 2) × (v .ones ≡ 0) × (v .number ≡ 1)
+    pub extract-found : isIndex m N k s ≡ true → i < k → {v : Spot} → Root v
         → (j : ℕ) → j ≡ min i k → (r : Found) → Finds m N v k s 0 way.Place j r
         → (r .number ≤ N) × (accepted (r .number, r .visits) ≡ extract m N k s i)
     unfolding extract rowOf visits
@@ -81,7 +81,7 @@ module _ {m N k : ℕ} (p : Passed m N k) (s : List ℕ) where
     unfolding rank
     rank-place e l h = sym (ask-next p s _ e ∙ simp (l, lt-ltb k i h))
 
-    pub rank-found : isIndex m N k s ≡ true → isNumber N n ≡ true → i ≤ k → {v : Spot} → (v .depth ≡ 0) × (v .next ≡ 2) × (v .ones ≡ 0) × (v .number ≡ 1)
+    pub rank-found : isIndex m N k s ≡ true → isNumber N n ≡ true → i ≤ k → {v : Spot} → Root v
         → (x : ℕ) → (isNumber N n ≡ true → Path m n x) → (j : ℕ) → j ≡ min i k → (r : Found) → Finds m N v k s 0 (way.Codeword x) j r
         → accepted (r .rank, r .visits) ≡ rank m N k s n i
     unfolding rank rowOf visits begins

@@ -15,7 +15,7 @@ use Rattle.wavelet.specs.Questions.{rankIn}
 use Rattle.wavelet.specs.Walk.{At, sideOf, ends, Ends}
 use Rattle.wavelet.specs.declared.Spot.{Spot}
 use Rattle.wavelet.proofs.Strings.{begins-front}
-use Rattle.wavelet.proofs.Pruned.{Forked, stands-node, stands-number}
+use Rattle.wavelet.proofs.Pruned.{AtNode, stands-node, stands-number}
 use Rattle.wavelet.proofs.Merging.{count-before, rank-same}
 use Rattle.wavelet.proofs.Trees.{Under, map-length, visits-leaf}
 use Rattle.wavelet.proofs.Ends.{mid-is}
@@ -28,20 +28,21 @@ use Rattle.wavelet.proofs.Sides.{side, count-side, held-side, before-side, plac
 
 module _ (m N : ℕ) (v : Spot) (k : ℕ) (s : List ℕ) (at : ℕ) (w : Way) (i : ℕ) (here : at ≤ 8 * length s) (le : i ≤ k) where
   -- a leaf
-  pub find-leaf : nodeTest m N v ≡ false → Finds m N v k s at w i (record { end = at; number = v .number; rank = i; visits = v .depth })
-  find-leaf e = (
-    end-leaf m N v k s at here e,
-    λ (l : at ≤ 8 * length s) (f : ℕ) (q : List Bool) (h : At m N f q v).
+  pub find-leaf : nodeTest m N v ≡ false → (r : Found) → (r .end ≡ at) × (r .number ≡ v .number) × (r .rank ≡ i) × (r .visits ≡ v .depth)
+      → Finds m N v k s at w i r
+  find-leaf e r is = (
+    rw (is .0) (end-leaf m N v k s at here e),
+    λ (l : r .end ≤ 8 * length s) (f : ℕ) (q : List Bool) (h : At m N f q v).
         let t = is-leaf m N v e f q h in
         let n = stands-number h in
         record {
-          some = n .0;
-          most = h .small;
-          below = n .1;
-          ranked = rw t (unfold held in sym (rank-same k (v .number) i le));
-          visited = rw (t, visits-leaf m (v .number) (v .number)) (sym (add-zero (v .depth)));
-          at-place = λ p lt. rw t (unfold held in sym (getD-replicate k i (v .number) 0 lt));
-          at-codeword = λ n x p path a b g. sym (leaf-only h e n a b g);
+          some = rw (is .1) (n .0);
+          most = rw (is .1) (h .small);
+          below = rw (is .1) (n .1);
+          ranked = rw (t, is .1, is .2) (unfold held in sym (rank-same k (v .number) i le));
+          visited = rw (t, is .3, visits-leaf m (v .number) (r .number)) (sym (add-zero (v .depth)));
+          at-place = λ p lt. rw (t, is .1) (unfold held in sym (getD-replicate k i (v .number) 0 lt));
+          at-codeword = λ n x p path a b g. is .1 ∙ sym (leaf-only h e n a b g);
         },
   )
 
@@ -63,29 +64,29 @@ module _ (m N : ℕ) (v : Spot) (k : ℕ) (s : List ℕ) (at : ℕ) (w : Way) (i
     -- what was found there
     module _ (found : Found) (inside : end ≤ 8 * length s → found .end ≤ 8 * length s)
         (below : Finds m N (side a x y) (side a (k - e) e) s (side a (at + k) mid) w (side a (i - c) c) found) where
-      there : (f : ℕ) (q : List Bool) (fork : Forked m N f q (v .depth) (v .next) (v .ones) (v .number)) → found .end ≤ 8 * length s → (a : Bool)
+      there : (f : ℕ) (q : List Bool) (branch : AtNode m N f q (v .depth) (v .next) (v .ones) (v .number)) → found .end ≤ 8 * length s → (a : Bool)
           → Finds m N (side a x y) (side a (k - e) e) s (side a (at + k) mid) w (side a (i - c) c) found
-          → Arrived m N (q ++ (a ∷ [])) (side a (prune m N (fork .g) (q ++ (false ∷ []))) (prune m N (fork .g) (q ++ (true ∷ []))))
+          → Arrived m N (q ++ (a ∷ [])) (side a (prune m N (branch .g) (q ++ (false ∷ []))) (prune m N (branch .g) (q ++ (true ∷ []))))
           (drop (side a (at + k) mid) (unpack s)) (side a (k - e) e) w (side a (i - c) c) (v .depth + 1) found
-      there f q fork l false r = (rw ex at r) .1 l (fork .g) (q ++ (false ∷ [])) (fork .zero-side)
-      there f q fork l true r = (rw ey at r) .1 l (fork .g) (q ++ (true ∷ [])) (fork .one-side)
+      there f q branch l false r = (rw ex at r) .1 l (branch .g) (q ++ (false ∷ [])) (branch .zero-side)
+      there f q branch l true r = (rw ey at r) .1 l (branch .g) (q ++ (true ∷ [])) (branch .one-side)
 
       arrived : end ≤ 8 * length s → (f : ℕ) (q : List Bool) (h : At m N f q v)
           → Arrived m N q (prune m N f q) (drop at (unpack s)) k w i (v .depth) (record { end = end; number = found .number; rank = found .rank; visits = found .visits })
       arrived l f q h =
           let n = found .number in
           let b = unpack s in
-          let fork = stands-node h (is-node m N v node-is .0) (is-node m N v node-is .1) in
-          let z = prune m N (fork .g) (q ++ (false ∷ [])) in
-          let o = prune m N (fork .g) (q ++ (true ∷ [])) in
-          let u : Under m q (node q z o) = node-under h z o (fork .tree-is) in
+          let branch = stands-node h (is-node m N v node-is .0) (is-node m N v node-is .1) in
+          let z = prune m N (branch .g) (q ++ (false ∷ [])) in
+          let o = prune m N (branch .g) (q ++ (true ∷ [])) in
+          let u : Under m q (node q z o) = node-under h z o (branch .tree-is) in
           let d : need (node q z o) k (drop at b) ≤ length (drop at b) =
-          node-need (node q z o) k b at end (all-end f q h ∙ ap (λ (t : Tree). ends t k b at) (fork .tree-is)) (omega (arith, unpack-length s)) in
-          let zs : mid ≡ ends z (k - e) b (at + k) = (rw ex at mids) (fork .g) (q ++ (false ∷ [])) (fork .zero-side) in
+          node-need (node q z o) k b at end (all-end f q h ∙ ap (λ (t : Tree). ends t k b at) (branch .tree-is)) (omega (arith, unpack-length s)) in
+          let zs : mid ≡ ends z (k - e) b (at + k) = (rw ex at mids) (branch .g) (q ++ (false ∷ [])) (branch .zero-side) in
           let row = held-side k b at e in-bits ones z o mid (mid-is q z o k b at e in-bits ones mid zs (omega (arith, unpack-length s))) a in
           let ranks = before-side k b at e in-bits ones i c le before a in
-          let r = there f q fork (inside l) a below in
-          rw (fork .tree-is) (record {
+          let r = there f q branch (inside l) a below in
+          rw (branch .tree-is) (record {
             some = r .some;
             most = r .most;
             below = begins-front q (codeword m n) a (r .below);

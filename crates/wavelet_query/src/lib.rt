@@ -1,12 +1,11 @@
 // Two questions asked of an index, extract and rank. Each walks the bitmaps once, which also shows whether the bytes are an index.
 ghost use mathlib.Core.Path.{_≡_};
 ghost use Prim.Native.Nat.{_+_, _*_, _^_, _≤_, _<_};
-ghost use lib.ListN.{length, take, drop};
-ghost use Rattle.bits.specs.Bits.{unpack};
+ghost use lib.ListN.{length};
 ghost use Rattle.fibonacci.specs.Code.{F};
 ghost use Rattle.fibonacci.specs.Tables.{Order, tableRow};
-ghost use Rattle.wavelet.specs.Questions.{mostAlphabet, mostIndex, extract, rank};
-ghost use Rattle.wavelet.specs.Walk.{Low};
+ghost use Rattle.wavelet.specs.Questions.{mostAlphabet, extract, rank};
+ghost use Rattle.wavelet.specs.Walk.{Low, mostIndex};
 ghost use Rattle.wavelet_query.specs.Asking.{extractOutcome, rankOutcome, turn, Finds};
 
 // The refusals' numbers are paper 01's.
@@ -48,15 +47,15 @@ struct Found {
     visits: usize,
 }
 
-// The bitmaps run past the bytes, and nothing is found.
-fn lost(end: usize) -> Found
-    ensures { λ r. ⌜ r .end ≡ end ⌝ }
+// At a string of the tree. Where bitmaps run past the bytes, only the end counts.
+fn found_at(end: usize, v: wavelet::Spot, rank: usize) -> Found
+    ensures { λ r. ⌜ (r .end ≡ end) × (r .number ≡ v .number) × (r .rank ≡ rank) × (r .visits ≡ v .depth) ⌝ }
 {
     Found {
         end,
-        number: 0,
-        rank: 0,
-        visits: 0,
+        number: v.number,
+        rank,
+        visits: v.depth,
     }
 }
 
@@ -87,16 +86,11 @@ fn descend(
     ensures { λ r. ⌜ Finds order limit v k (now (b .entry)) at way i r ⌝ }
 {
     if !wavelet::is_node(order, limit, v) {
-        return Found {
-            end: at,
-            number: v.number,
-            rank: i,
-            visits: v.depth,
-        };
+        return found_at(at, v, i);
     }
     let total = b.len() * 8;
     if k > total - at {
-        return lost(total + 1);
+        return found_at(total + 1, v, 0);
     }
     let ones = wavelet::ones_in(b, at, k);
     let before = wavelet::ones_in(b, at, i);
@@ -105,7 +99,7 @@ fn descend(
     if takes_one(way, b, at, i, v.depth) {
         let mid = wavelet::end_of(positions, order, limit, zero, k - ones, b, at + k);
         if mid > total {
-            return lost(mid);
+            return found_at(mid, v, 0);
         }
         descend(positions, order, limit, one, ones, b, mid, way, before)
     } else {

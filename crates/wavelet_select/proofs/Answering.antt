@@ -17,7 +17,7 @@ use Rattle.wavelet.specs.Nodes.{begins, tree, visits}
 use Rattle.wavelet.specs.Bitmaps.{isIndex, rowOf}
 use Rattle.wavelet.specs.Questions.{checkTree, uses, rankIn, selectIn, select}
 use Rattle.wavelet.specs.Answers.{treeRefusal}
-use Rattle.wavelet.specs.Walk.{Path}
+use Rattle.wavelet.specs.Walk.{Path, Root}
 use Rattle.wavelet.specs.declared.Spot.{Spot}
 use Rattle.wavelet.specs.declared.Refusal.{Refusal}
 use Rattle.bits.proofs.Place.{place-found, place-none}
@@ -54,7 +54,7 @@ module _ {m N k : ℕ} (p : Passed m N k) (s : List ℕ) (n j : ℕ) where
       select-none e = sym (ask-next p s _ whole ∙ simp (number, eq-eqb j 0 e))
 
       -- the walk for the use that has j - 1 others before it
-      module _ (some : 1 ≤ j) {v : Spot} (root : (v .depth ≡ 0) × (v .next ≡ 2) × (v .ones ≡ 0) × (v .number ≡ 1)) (x : ℕ) (path : Path m n x)
+      module _ (some : 1 ≤ j) {v : Spot} (root : Root v) (x : ℕ) (path : Path m n x)
           (i : ℕ) (skipped : i ≡ j - 1) (r : Use) (walked : Selects m N v k s 0 x i r) where
         inside : r .end ≤ 8 * length s
         inside = index-end p s root (r .end) (walked .0) whole

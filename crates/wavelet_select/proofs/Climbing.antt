@@ -15,7 +15,7 @@ use Rattle.wavelet.specs.Bitmaps.{need, held}
 use Rattle.wavelet.specs.Questions.{uses}
 use Rattle.wavelet.specs.Walk.{At, sideOf, ends, Ends, Path}
 use Rattle.wavelet.specs.declared.Spot.{Spot}
-use Rattle.wavelet.proofs.Pruned.{Forked, stands-node}
+use Rattle.wavelet.proofs.Pruned.{AtNode, stands-node}
 use Rattle.wavelet.proofs.Merging.{select-same, select-same-none}
 use Rattle.wavelet.proofs.Trees.{Under, zeroSide, oneSide, select-one, select-zero, visits-leaf, visits-one, visits-zero}
 use Rattle.wavelet.proofs.Ends.{mid-is}
@@ -69,14 +69,14 @@ module _ (m N : ℕ) (v : Spot) (k : ℕ) (s : List ℕ) (at x j : ℕ) (here : 
         module _ (found : Use) (inside : end ≤ 8 * length s → found .end ≤ 8 * length s)
             (below : Selects m N (side a y w) (side a (k - e) e) s (side a (at + k) mid) x j found)
             (p : ℕ) (places : p ≡ place a (found .place) (take k (drop at (unpack s)))) where
-          there : (f : ℕ) (q : List Bool) (fork : Forked m N f q (v .depth) (v .next) (v .ones) (v .number)) → found .end ≤ 8 * length s
+          there : (f : ℕ) (q : List Bool) (branch : AtNode m N f q (v .depth) (v .next) (v .ones) (v .number)) → found .end ≤ 8 * length s
               → (n : ℕ) → Path m n x → 1 ≤ n → n ≤ N → (a : Bool) → begins (q ++ (a ∷ [])) (codeword m n) ≡ true
               → Selects m N (side a y w) (side a (k - e) e) s (side a (at + k) mid) x j found
-              → let t = side a (prune m N (fork .g) (q ++ (false ∷ []))) (prune m N (fork .g) (q ++ (true ∷ []))) in
+              → let t = side a (prune m N (branch .g) (q ++ (false ∷ []))) (prune m N (branch .g) (q ++ (true ∷ []))) in
               (found .place ≡ place true j (uses n (held t (side a (k - e) e) (drop (side a (at + k) mid) (unpack s)))))
               × (found .visits ≡ v .depth + 1 + visitsIn m t n)
-          there f q fork l n path lo hi false g r = (rw ey at r) .1 l (fork .g) (q ++ (false ∷ [])) n (fork .zero-side) path lo hi g
-          there f q fork l n path lo hi true g r = (rw ew at r) .1 l (fork .g) (q ++ (true ∷ [])) n (fork .one-side) path lo hi g
+          there f q branch l n path lo hi false g r = (rw ey at r) .1 l (branch .g) (q ++ (false ∷ [])) n (branch .zero-side) path lo hi g
+          there f q branch l n path lo hi true g r = (rw ew at r) .1 l (branch .g) (q ++ (true ∷ [])) n (branch .one-side) path lo hi g
 
           here-too : end ≤ 8 * length s → (f : ℕ) (q : List Bool) (n : ℕ) → At m N f q v → Path m n x → 1 ≤ n → n ≤ N
               → begins q (codeword m n) ≡ true
@@ -84,17 +84,17 @@ module _ (m N : ℕ) (v : Spot) (k : ℕ) (s : List ℕ) (at x j : ℕ) (here : 
               × (found .visits ≡ v .depth + visitsIn m (prune m N f q) n)
           here-too l f q n h path lo hi g =
               let b = unpack s in
-              let fork = stands-node h (is-node m N v node-is .0) (is-node m N v node-is .1) in
-              let z = prune m N (fork .g) (q ++ (false ∷ [])) in
-              let o = prune m N (fork .g) (q ++ (true ∷ [])) in
-              let u : Under m q (node q z o) = node-under h z o (fork .tree-is) in
+              let branch = stands-node h (is-node m N v node-is .0) (is-node m N v node-is .1) in
+              let z = prune m N (branch .g) (q ++ (false ∷ [])) in
+              let o = prune m N (branch .g) (q ++ (true ∷ [])) in
+              let u : Under m q (node q z o) = node-under h z o (branch .tree-is) in
               let d : need (node q z o) k (drop at b) ≤ length (drop at b) =
-              node-need (node q z o) k b at end (all-end f q h ∙ ap (λ (t : Tree). ends t k b at) (fork .tree-is)) (omega (arith, unpack-length s)) in
-              let zs : mid ≡ ends z (k - e) b (at + k) = (rw ey at mids) (fork .g) (q ++ (false ∷ [])) (fork .zero-side) in
+              node-need (node q z o) k b at end (all-end f q h ∙ ap (λ (t : Tree). ends t k b at) (branch .tree-is)) (omega (arith, unpack-length s)) in
+              let zs : mid ≡ ends z (k - e) b (at + k) = (rw ey at mids) (branch .g) (q ++ (false ∷ [])) (branch .zero-side) in
               let g1 = path-side h (is-node m N v node-is .0) deep n x path lo g a way in
               let row = held-side k b at e in-bits ones z o mid (mid-is q z o k b at e in-bits ones mid zs (omega (arith, unpack-length s))) a in
-              let r = there f q fork (inside l) n path lo hi a g1 below in
-              rw (fork .tree-is) (
+              let r = there f q branch (inside l) n path lo hi a g1 below in
+              rw (branch .tree-is) (
                 places ∙ ap (λ (i : ℕ). place a i (take k (drop at b))) (r .0 ∙ ap (λ (l : List ℕ). place true j (uses n l)) (sym row))
                     ∙ sym (select-side m q z o u k (drop at b) d a n g1 j),
                 omega (arith, r .1, visits-side m q z o u a n g1),

@@ -5,8 +5,8 @@ ghost use lib.ListN.{length, take, drop};
 ghost use Rattle.bits.specs.Bits.{unpack, place};
 ghost use Rattle.fibonacci.specs.Code.{F};
 ghost use Rattle.fibonacci.specs.Tables.{Order, tableRow};
-ghost use Rattle.wavelet.specs.Questions.{mostAlphabet, mostIndex, select};
-ghost use Rattle.wavelet.specs.Walk.{Low};
+ghost use Rattle.wavelet.specs.Questions.{mostAlphabet, select};
+ghost use Rattle.wavelet.specs.Walk.{Low, mostIndex};
 ghost use Rattle.wavelet_select.specs.Selecting.{Selects, selectOutcome};
 
 // The refusals' numbers are paper 01's.

@@ -8,10 +8,10 @@ use Rattle.bits.specs.Bits.{unpack}
 use Rattle.fibonacci.specs.Calls.{Legal, checkEach}
 use Rattle.fibonacci.proofs.Checks.{each-accepted}
 use Rattle.wavelet.specs.Bitmaps.{bitmaps}
-use Rattle.wavelet.specs.Questions.{mostIndex}
 use Rattle.wavelet.specs.Answers.{checkedOutcome}
 use Rattle.wavelet.proofs.Answering.{legal, Passed, tree-passed, legal-order, legal-alphabet, low-root}
 use Rattle.wavelet_build.specs.Building.{filledOutcome, Paths}
+use Rattle.wavelet.specs.Walk.{mostIndex}
 use Rattle.wavelet_build.proofs.Building.{root-room, root-spread, build-refused, build-number, build-room, build-done}
 use Rattle.wavelet_build.proofs.build.Statement.{statement}
 use Rattle.wavelet_build.proofs.build.Tie as tie

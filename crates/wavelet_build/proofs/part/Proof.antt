@@ -77,27 +77,27 @@ loop-again c =
     (parting-zero p here (sym bit ∙ w .0 .left), refl, l .inv .2, set .kept .0 ∙ l .inv .3))
     (c .if1 .came)
 
-mul-copy-words : tie.Need-mul-copy-words Inv-loop μ-loop
-mul-copy-words c = omega arith
+mul-copy : tie.Need-mul-copy Inv-loop μ-loop
+mul-copy c = omega arith
 
-sub-copy-words : tie.Need-sub-copy-words Inv-loop μ-loop
-sub-copy-words c = omega arith
+sub-copy : tie.Need-sub-copy Inv-loop μ-loop
+sub-copy c = omega arith
 
-part-copy-words-start : tie.Need-part-copy-words-start Inv-loop μ-loop
-part-copy-words-start c = omega arith
+part-copy-start : tie.Need-part-copy-start Inv-loop μ-loop
+part-copy-start c = omega arith
 
-part-copy-words-end : tie.Need-part-copy-words-end Inv-loop μ-loop
-part-copy-words-end c = omega arith
+part-copy-end : tie.Need-part-copy-end Inv-loop μ-loop
+part-copy-end c = omega arith
 
-copy-words-requires : tie.Need-copy-words-requires Inv-loop μ-loop
-copy-words-requires c κs =
+copy-requires : tie.Need-copy-requires Inv-loop μ-loop
+copy-requires c κs =
     let l = c .before .before .before .loop in
     (omega arith, omega (arith, length-take (length (l .words) - l .zeros) (drop (l .zeros) (l .words)), length-drop (l .zeros) (l .words)))
 
 same-length : tie.Need-same-length Inv-loop μ-loop
 same-length c =
     let l = c .before .before .before .before .before .before .loop in
-    let y = c .before .before .copy-words in
+    let y = c .before .before .copy in
     same-len-mid (l .zeros) (length (l .words) - l .zeros) (l .words) (y .last .0) (y .kept .0) ∙ l .inv .0 .long
 
 same-length-2 : tie.Need-same-length-2 Inv-loop μ-loop
@@ -110,7 +110,7 @@ returns : tie.Need-returns Inv-loop μ-loop
 returns c =
     let l = c .before .before .before .before .before .before .loop in
     let p = l .inv .0 in
-    (parted-count p (omega arith), parted-words p (omega arith) _ (c .before .before .copy-words .ensures), parted-bits p (omega arith))
+    (parted-count p (omega arith), parted-words p (omega arith) _ (c .before .before .copy .ensures), parted-bits p (omega arith))
 
 pub part-spec : {M : Type 1} → statement M
 part-spec =
@@ -133,11 +133,11 @@ part-spec =
     add-i
     loop-less
     loop-again
-    mul-copy-words
-    sub-copy-words
-    part-copy-words-start
-    part-copy-words-end
-    copy-words-requires
+    mul-copy
+    sub-copy
+    part-copy-start
+    part-copy-end
+    copy-requires
     same-length
     same-length-2
     same-length-3

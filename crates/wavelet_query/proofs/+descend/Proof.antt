@@ -23,7 +23,7 @@ use Rattle.wavelet.proofs.end_of.Reads as end-of-reads
 use Rattle.wavelet.proofs.is_node.Reads as is-node-reads
 use Rattle.wavelet.proofs.ones_in.Reads as ones-in-reads
 use Rattle.wavelet.proofs.side.Reads as side-reads
-use Rattle.wavelet_query.proofs.lost.Reads as lost-reads
+use Rattle.wavelet_query.proofs.found_at.Reads as found-at-reads
 use Rattle.wavelet_query.proofs.takes_one.Reads as takes-one-reads
 use Rattle.wavelet_query.proofs.+descend.{statement}
 use Rattle.wavelet_query.proofs.+descend.Tie.{close}
@@ -41,8 +41,8 @@ abbrev known : ℕ → descend-lts.Claims
 known t = (
   is-node-reads.Asked,
   is-node-reads.Learnt,
-  lost-reads.Asked,
-  lost-reads.Learnt,
+  found-at-reads.Asked,
+  found-at-reads.Learnt,
   ones-in-reads.Asked,
   ones-in-reads.Learnt,
   side-reads.Asked,
@@ -95,11 +95,14 @@ counts t c =
 descend-is-node-requires : (t : ℕ) → descend-lts.Need-is-node-requires (known t) (descend-at t) descend.Post
 descend-is-node-requires t c κs = tt
 
+descend-found-at-requires : (t : ℕ) → descend-lts.Need-found-at-requires (known t) (descend-at t) descend.Post
+descend-found-at-requires t c κs = tt
+
 descend-returns : (t : ℕ) → descend-lts.Need-returns (known t) (descend-at t) descend.Post
 descend-returns t c =
-    let z = c .before .before .before in
+    let z = c .before .before .before .before in
     let p = z .pre .1 in
-    find-leaf _ _ (z .args .v) _ _ _ _ _ (p .5) (p .6) (sym (c .before .is-node .ensures) ∙ not-true _ (c .if1 .taken))
+    find-leaf _ _ (z .args .v) _ _ _ _ _ (p .5) (p .6) (sym (c .before .before .is-node .ensures) ∙ not-true _ (c .before .if1 .taken)) _ (c .found-at .ensures)
 
 descend-mul-total : (t : ℕ) → descend-lts.Need-mul-total (known t) (descend-at t) descend.Post
 descend-mul-total t c = let p = c .before .before .before .pre .1 in omega (arith, p .4)
@@ -107,18 +110,18 @@ descend-mul-total t c = let p = c .before .before .before .pre .1 in omega (arit
 descend-sub-if2 : (t : ℕ) → descend-lts.Need-sub-if2 (known t) (descend-at t) descend.Post
 descend-sub-if2 t c = let p = c .before .before .before .pre .1 in omega (arith, p .5)
 
-descend-add-lost : (t : ℕ) → descend-lts.Need-add-lost (known t) (descend-at t) descend.Post
-descend-add-lost t c = let p = c .before .before .before .before .pre .1 in omega (arith, p .4)
+descend-add-found-at : (t : ℕ) → descend-lts.Need-add-found-at (known t) (descend-at t) descend.Post
+descend-add-found-at t c = let p = c .before .before .before .before .pre .1 in omega (arith, p .4)
 
-descend-lost-requires : (t : ℕ) → descend-lts.Need-lost-requires (known t) (descend-at t) descend.Post
-descend-lost-requires t c κs = tt
+descend-found-at-requires-2 : (t : ℕ) → descend-lts.Need-found-at-requires-2 (known t) (descend-at t) descend.Post
+descend-found-at-requires-2 t c κs = tt
 
 descend-returns-2 : (t : ℕ) → descend-lts.Need-returns-2 (known t) (descend-at t) descend.Post
 descend-returns-2 t c =
     let z = c .before .before .before .before .before in
     let p = z .pre .1 in
     let short = end-short _ _ (z .args .v) _ _ _ (p .5) (node-is t (c .before .before)) (c .before .if2 .taken) in
-    find-none _ _ (z .args .v) _ _ _ _ _ (p .5) (p .6) _ (rw (c .lost .ensures) short) (omega (arith, c .lost .ensures))
+    find-none _ _ (z .args .v) _ _ _ _ _ (p .5) (p .6) _ (rw (c .found-at2 .ensures .0) short) (omega (arith, c .found-at2 .ensures .0))
 
 descend-ones-in-requires : (t : ℕ) → descend-lts.Need-ones-in-requires (known t) (descend-at t) descend.Post
 descend-ones-in-requires t c κs = (fits t c, c .before .before .before .before .pre .1 .4)
@@ -146,8 +149,8 @@ descend-end-of-requires t c κs =
     let p = c .before .before .before .before .before .before .before .before .before .before .pre .1 in
     (p .0, p .1, p .2, c .before .before .before .side .ensures .1, p .4, fits t (c .before .before .before .before .before .before))
 
-descend-lost-requires-2 : (t : ℕ) → descend-lts.Need-lost-requires-2 (known t) (descend-at t) descend.Post
-descend-lost-requires-2 t c κs = tt
+descend-found-at-requires-3 : (t : ℕ) → descend-lts.Need-found-at-requires-3 (known t) (descend-at t) descend.Post
+descend-found-at-requires-3 t c κs = tt
 
 descend-returns-3 : (t : ℕ) → descend-lts.Need-returns-3 (known t) (descend-at t) descend.Post
 descend-returns-3 t c =
@@ -156,7 +159,7 @@ descend-returns-3 t c =
     let p = z .pre .1 in
     let cut = end-cut _ _ (z .args .v) _ _ _ (p .5) (node-is t (y .before .before .before .before .before .before .before)) (fits t (y .before .before .before .before .before .before)) _ (y .before .before .before .before .before .ones-in .ensures .0) _ _ (y .before .before .before .side .ensures .0)
     (c .before .before .end-of .ensures) (c .before .if4 .taken) in
-    find-none _ _ (z .args .v) _ _ _ _ _ (p .5) (p .6) _ (rw (c .lost2 .ensures) cut) (omega (arith, c .lost2 .ensures, c .before .if4 .taken))
+    find-none _ _ (z .args .v) _ _ _ _ _ (p .5) (p .6) _ (rw (c .found-at3 .ensures .0) cut) (omega (arith, c .found-at3 .ensures .0, c .before .if4 .taken))
 
 descend-descend-requires : (t : ℕ) → descend-lts.Need-descend-requires (known t) (descend-at t) descend.Post
 descend-descend-requires t c κs =
@@ -223,11 +226,12 @@ pub +descend-spec : {M : Type 1} → statement M
     (descend-at t)
     descend.Post
     (descend-is-node-requires t)
+    (descend-found-at-requires t)
     (descend-returns t)
     (descend-mul-total t)
     (descend-sub-if2 t)
-    (descend-add-lost t)
-    (descend-lost-requires t)
+    (descend-add-found-at t)
+    (descend-found-at-requires-2 t)
     (descend-returns-2 t)
     (descend-ones-in-requires t)
     (descend-ones-in-requires-2 t)
@@ -237,7 +241,7 @@ pub +descend-spec : {M : Type 1} → statement M
     (descend-sub-end-of t)
     (descend-add-end-of t)
     (descend-end-of-requires t)
-    (descend-lost-requires-2 t)
+    (descend-found-at-requires-3 t)
     (descend-returns-3 t)
     (descend-descend-requires t)
     (descend-sub-descend t)

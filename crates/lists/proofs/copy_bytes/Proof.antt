@@ -5,26 +5,20 @@ use native.Mathlib.Omega.{arith}
 use lib.ListN.{length, take, drop}
 use borrow.Author.Needs.{needs}
 use Rattle.bits.proofs.Lists.{copy-more}
-use Rattle.decoder.proofs.copy.Statement.{statement}
-use Rattle.decoder.proofs.copy.Tie as tie
+use Rattle.lists.proofs.copy_bytes.Statement.{statement}
+use Rattle.lists.proofs.copy_bytes.Tie as tie
 
 abbrev Inv-loop : tie.InvT-loop
-Inv-loop to₀ row n i₀ to i = (i ≤ n) × (length to ≡ length to₀) × (to ≡ take i row ++ drop i to₀)
+Inv-loop to₀ from n i₀ to i = (i ≤ n) × (length to ≡ length to₀) × (to ≡ take i from ++ drop i to₀)
 
 abbrev μ-loop : tie.MeasureT-loop
-μ-loop to₀ row n i₀ to i = n - i
+μ-loop to₀ from n i₀ to i = n - i
 
 loop-holds : tie.Need-loop-holds Inv-loop μ-loop
 loop-holds c = (omega arith, refl, refl)
 
-mul-to : tie.Need-mul-to Inv-loop μ-loop
-mul-to c = omega arith
-
 shared-slice-read-to : tie.Need-shared-slice-read-to Inv-loop μ-loop
 shared-slice-read-to c = omega arith
-
-mul-to-2 : tie.Need-mul-to-2 Inv-loop μ-loop
-mul-to-2 c = omega arith
 
 slice-write-to : tie.Need-slice-write-to Inv-loop μ-loop
 slice-write-to c = omega arith
@@ -39,7 +33,7 @@ loop-again : tie.Need-loop-again Inv-loop μ-loop
 loop-again c =
     let l = c .before .before .loop in
     let a = c .before .before .before .args in
-    (omega arith, search needs, rw (l .inv .2) (copy-more (a .row .now) (a .to .now) (l .i) _ 0 (omega arith) (omega arith) refl))
+    (omega arith, search needs, rw (l .inv .2) (copy-more (a .from .now) (a .to .now) (l .i) _ 0 (omega arith) (omega arith) refl))
 
 same-length : tie.Need-same-length Inv-loop μ-loop
 same-length c = search needs
@@ -50,16 +44,14 @@ returns c =
     let end : l .i ≡ c .before .before .args .n = omega arith in
     rw (← end) (l .inv .2)
 
-pub copy-spec : {M : Type 1} → statement M
-copy-spec =
+pub copy-bytes-spec : {M : Type 1} → statement M
+copy-bytes-spec =
     tie.close
     (tie.spec
     Inv-loop
     μ-loop
     loop-holds
-    mul-to
     shared-slice-read-to
-    mul-to-2
     slice-write-to
     add-i
     loop-less

@@ -5,8 +5,8 @@ use native.Mathlib.Omega.{arith}
 use lib.ListN.{length, take, drop}
 use borrow.Author.Needs.{needs}
 use Rattle.bits.proofs.Lists.{copy-more}
-use Rattle.wavelet_build.proofs.copy_words.Statement.{statement}
-use Rattle.wavelet_build.proofs.copy_words.Tie as tie
+use Rattle.lists.proofs.copy.Statement.{statement}
+use Rattle.lists.proofs.copy.Tie as tie
 
 abbrev Inv-loop : tie.InvT-loop
 Inv-loop to₀ from n i₀ to i = (i ≤ n) × (length to ≡ length to₀) × (to ≡ take i from ++ drop i to₀)
@@ -50,8 +50,8 @@ returns c =
     let end : l .i ≡ c .before .before .args .n = omega arith in
     rw (← end) (l .inv .2)
 
-pub copy-words-spec : {M : Type 1} → statement M
-copy-words-spec =
+pub copy-spec : {M : Type 1} → statement M
+copy-spec =
     tie.close
     (tie.spec
     Inv-loop

@@ -1,5 +1,5 @@
 -- The nodes of the tree of 1 .. N: the strings after which both a 0 and a 1 go on; there are N - 1, the digits of the codewords of 2 .. N.
-use mathlib.Core.Path.{_≡_, refl, sym, ap, _∙_}
+use mathlib.Core.Path.{_≡_, refl, sym, ap, _∙_, subst}
 use mathlib.Core.Bool.{Bool, true, false, _&&_, true≢false, false≢true}
 use mathlib.Core.List.{List, [], _∷_, _++_, append-assoc, append-nil}
 use mathlib.Core.Logic.{_⊎_, inl, inr, ⊎-elim, _↔_}
@@ -10,14 +10,15 @@ use lib.ListN.{length, getD, take, drop, length-append, replicate-append-replica
 use lib.Seq.{take-at}
 use Rattle.bits.specs.Bits.{is, worth}
 use Rattle.fibonacci.specs.Code.{valuesFrom, ones, runs, Codeword, value, number, codeword}
+use Rattle.fibonacci.specs.Encoding.{All}
 use Rattle.fibonacci.proofs.Checks.{both}
 use Rattle.fibonacci.proofs.Runs.{few-ones, runs-cut}
 use Rattle.fibonacci.proofs.Numbers.{first-rises, first-pos, value-append, number-one, form-codeword, codeword-good}
 use Rattle.wavelet.specs.Nodes.{those, begins, goesOn, isNode, Tree, leaf, node, prune, tree, nodes}
-use Rattle.wavelet.specs.Demand.{In}
+use Rattle.wavelet.specs.Demand.{In, Once}
 use Rattle.wavelet.specs.Walk.{Stands}
 use Rattle.wavelet.proofs.Strings.{begins-rest, begins-append, begins-bit, begins-next, begins-front, begins-one}
-use Rattle.wavelet.proofs.Trees.{Under, Has, has-begins}
+use Rattle.wavelet.proofs.Trees.{Under, Has, has-begins, nodes-begin}
 use Rattle.wavelet.proofs.Pruned.{goes-some, goes-on, goes-codeword, runs-before, next-number, next-least}
 use Rattle.wavelet.proofs.Pruned.{stands-root, stands-node, stands-number, stands-high, stands-full, high-only, full-only, stands-longer}
 
@@ -361,3 +362,40 @@ node-digits m N k h p = (
       (goes-codeword m N (p ++ (false ∷ [])) (ones m) k (form-codeword m _ k (inr (p, e, d .0))) (rw e (d .1)))
       (one-goes m N p k (d .0) (d .1)),
 )
+
+-- ## Each once
+
+once-append : (a b : List (List Bool)) → Once a → Once b → ((p : List Bool) → In p a → In p b → ⊥) → Once (a ++ b)
+once-append [] b x y apart = y
+once-append (p ∷ a) b x y apart = (
+  λ (i : In p (a ++ b)). ⊎-elim (x .0) (apart p ([], a, refl)) (in-append p a b i),
+  once-append a b (x .1) y (λ r i. apart r (in-behind (p ∷ []) a i)),
+)
+
+-- what holds of all, of each
+all-in : (P : List Bool → Type 0) (p : List Bool) (l : List (List Bool)) → All P l → In p l → P p
+all-in P p [] x i = absurd (in-none p i)
+all-in P p (r ∷ l) x i = ⊎-elim (λ (e : p ≡ r). subst P (sym e) (x .0)) (all-in P p l (x .1)) (in-cons p r l i)
+
+-- no string begins with itself and a bit more
+no-longer : (p : List Bool) (a : Bool) → begins (p ++ (a ∷ [])) p ≡ true → ⊥
+no-longer p a e =
+    omega (
+      arith,
+      ap length (begins-rest (p ++ (a ∷ [])) p e),
+      length-append (p ++ (a ∷ [])) (drop (length (p ++ (a ∷ []))) p),
+      length-append p (a ∷ []),
+    )
+
+pub nodes-once : (m : ℕ) (q : List Bool) (t : Tree) → Under m q t → Once (nodes t)
+unfolding nodes
+nodes-once m q (leaf n) u = tt
+nodes-once m q (node p z o) u =
+    let zs = nodes-begin m (p ++ (false ∷ [])) z (u .1) in
+    let os = nodes-begin m (p ++ (true ∷ [])) o (u .2) in (
+      λ (i : In p (nodes z ++ nodes o)).
+          ⊎-elim (λ (j : In p (nodes z)). no-longer p false (all-in _ p (nodes z) zs j)) (λ (j : In p (nodes o)). no-longer p true (all-in _ p (nodes o) os j))
+          (in-append p (nodes z) (nodes o) i),
+      once-append (nodes z) (nodes o) (nodes-once m _ z (u .1)) (nodes-once m _ o (u .2))
+          (λ r i j. begins-one p r (all-in _ r (nodes z) zs i) (all-in _ r (nodes o) os j)),
+    )
