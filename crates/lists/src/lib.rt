@@ -4,21 +4,21 @@ ghost use mathlib.Core.List.{_++_};
 ghost use Prim.Native.Nat.{_≤_};
 ghost use lib.ListN.{length, take, drop};
 
-pub fn copy(to: &mut [u32], from: &[u32], n: usize)
-    requires { ⌜ (n ≤ length (now from)) × (n ≤ length (now to)) ⌝ }
-    ensures { λ r. ⌜ now (to .exit) ≡ take n (now (from .entry)) ++ drop n (now (to .entry)) ⌝ }
+pub fn copy(to: &mut [u32], words: &[u32], n: usize)
+    requires { ⌜ (n ≤ length (now words)) × (n ≤ length (now to)) ⌝ }
+    ensures { λ r. ⌜ now (to .exit) ≡ take n (now (words .entry)) ++ drop n (now (to .entry)) ⌝ }
 {
     for i in 0..n {
-        to[i] = from[i];
+        to[i] = words[i];
     }
 }
 
 // The same of bytes.
-pub fn copy_bytes(to: &mut [u8], from: &[u8], n: usize)
-    requires { ⌜ (n ≤ length (now from)) × (n ≤ length (now to)) ⌝ }
-    ensures { λ r. ⌜ now (to .exit) ≡ take n (now (from .entry)) ++ drop n (now (to .entry)) ⌝ }
+pub fn copy_bytes(to: &mut [u8], bytes: &[u8], n: usize)
+    requires { ⌜ (n ≤ length (now bytes)) × (n ≤ length (now to)) ⌝ }
+    ensures { λ r. ⌜ now (to .exit) ≡ take n (now (bytes .entry)) ++ drop n (now (to .entry)) ⌝ }
 {
     for i in 0..n {
-        to[i] = from[i];
+        to[i] = bytes[i];
     }
 }

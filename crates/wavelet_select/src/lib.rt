@@ -119,17 +119,8 @@ pub fn select(order: usize, alphabet: u32, len: usize, b: &[u8], n: u32, j: usiz
             let positions = fibonacci::positions(order);
             let x = wavelet::asked(&positions, order, limit, fibonacci::wide(n));
             let skipped = if j == 0 { 0 } else { j - 1 };
-            let found = climb(
-                &positions,
-                order,
-                limit,
-                wavelet::root(),
-                len,
-                b,
-                0,
-                x,
-                skipped,
-            );
+            let root = wavelet::root();
+            let found = climb(&positions, order, limit, root, len, b, 0, x, skipped);
             if !wavelet::is_exact(b, found.end) {
                 return SelectAnswer::Index;
             }

@@ -40,14 +40,14 @@ skipped c = ⊎-elim (λ h. omega (arith, h .0 .taken, h .1)) (λ h. omega (arit
 
 walked : (c : tie.After-climb)
     → let a = start c .args in
-    Selects (a .order) (a .alphabet) (c .before .root .result) (a .len) (a .b .now) 0
+    Selects (a .order) (a .alphabet) (c .before .before .root .result) (a .len) (a .b .now) 0
     (asked c .asked .result) (c .before .before .before .if2 .skipped) (c .climb .result)
-walked c = walk-is _ (c .before .root .result) _ _ _ _ _ _ (asked c .before .before .before .before .wide .ensures) (c .climb .ensures)
+walked c = walk-is _ (c .before .before .root .result) _ _ _ _ _ _ (asked c .before .before .before .before .wide .ensures) (c .climb .ensures)
 
 index : (c : tie.After-is-exact)
     → let a = start (c .before) .args in
     isIndex (a .order) (a .alphabet) (a .len) (a .b .now) ≡ c .is-exact .result
-index c = index-is (legal (c .before)) _ (c .before .before .root .ensures) _ (walked (c .before) .0) _ (c .is-exact .ensures)
+index c = index-is (legal (c .before)) _ (c .before .before .before .root .ensures) _ (walked (c .before) .0) _ (c .is-exact .ensures)
 
 -- the number is of the alphabet
 number : (c : tie.After-is-number)
@@ -106,7 +106,7 @@ climb-requires c κs =
       legal-order p,
       y .before .before .before .positions .ensures,
       omega (arith, y .before .before .before .before .wide .ensures, legal-alphabet p .1),
-      low-root p (c .root .ensures),
+      low-root p (c .before .root .ensures),
       omega (arith, few-bytes y .if1 .left),
       omega arith,
     )
@@ -151,7 +151,7 @@ returns-5 c =
     let z = y .before .before .before .before in
     let a = start z .args in
     let e = not-false _ (c .before .before .before .if4 .left) in
-    select-fewer (legal z) (a .b .now) (a .n) (a .j) (whole y) (number y ∙ e) (omega (arith, c .before .before .if5 .left)) (z .before .root .ensures) _
+    select-fewer (legal z) (a .b .now) (a .n) (a .j) (whole y) (number y ∙ e) (omega (arith, c .before .before .if5 .left)) (z .before .before .root .ensures) _
     (path y e) _ (skipped z) _ (walked z) (omega (arith, c .if6 .taken))
 
 returns-6 : tie.Need-returns-6
@@ -167,7 +167,7 @@ returns-7 c =
     let z = y .before .before .before .before in
     let a = start z .args in
     let e = not-false _ (c .before .before .before .if4 .left) in
-    select-found (legal z) (a .b .now) (a .n) (a .j) (whole y) (number y ∙ e) (omega (arith, c .before .before .if5 .left)) (z .before .root .ensures) _
+    select-found (legal z) (a .b .now) (a .n) (a .j) (whole y) (number y ∙ e) (omega (arith, c .before .before .if5 .left)) (z .before .before .root .ensures) _
     (path y e) _ (skipped z) _ (walked z) (omega (arith, c .if6 .left))
 
 pub select-spec : {M : Type 1} → statement M
