@@ -1,11 +1,11 @@
 // The answers of the library as paper 01 has them.
+use appender::AppendAnswer;
 use cases::Answer;
 use cases::accepted;
 use cases::refused;
 use cases::refused_at;
 use decoder::ReadAnswer;
 use decoder::Refusal;
-use encoder::AppendAnswer;
 use encoder::WriteAnswer;
 use totals::RepeatedTotalAnswer;
 use totals::TotalAnswer;

@@ -59,7 +59,7 @@ fn begin_append(name: &[u8], order: usize, buf: &[u8], used: usize, n: u32) {
 
 pub fn append(name: &[u8], order: usize, buf: &mut [u8], used: usize, n: u32) -> Answer {
     begin_append(name, order, buf, used, n);
-    let a = answers::of_append(encoder::append(order, buf, used, n));
+    let a = answers::of_append(appender::append(order, buf, used, n));
     print_two(a, b", in use ", b", count ");
     with_bytes(b"; buffer", buf);
     end();

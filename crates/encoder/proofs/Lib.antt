@@ -1,4 +1,2 @@
 pub mod Rows
 pub mod Writing
-pub mod Appending
-pub mod RoundTrip

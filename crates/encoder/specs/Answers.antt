@@ -1,12 +1,8 @@
 -- The answers of the functions as paper 01's numbers and values.
-use mathlib.Core.Bool.{Bool, true, false}
 use Prim.Native.Nat.{ℕ}
 use Rattle.fibonacci.specs.Calls.{Outcome, accepted, refused}
-use Rattle.decoder.specs.Answers.{refusal}
 use Rattle.encoder.specs.declared.WriteAnswer.{WriteAnswer}
 use Rattle.encoder.specs.declared.WriteAnswer.the-variants as write
-use Rattle.encoder.specs.declared.AppendAnswer.{AppendAnswer}
-use Rattle.encoder.specs.declared.AppendAnswer.the-variants as append
 use Rattle.encoder.specs.declared.Measured.{Measured}
 use Rattle.encoder.specs.declared.Measured.the-variants as measured
 
@@ -16,21 +12,6 @@ writeOutcome write.Order = refused 1 0
 writeOutcome write.Count = refused 4 0
 writeOutcome (write.Number place) = refused 3 place
 writeOutcome write.Room = refused 5 0
-
-abbrev pub appendOutcome : AppendAnswer → Outcome (ℕ × ℕ)
-appendOutcome (append.Appended bytes count) = accepted (bytes, count)
-appendOutcome (append.Refused r) = refusal r
-appendOutcome append.Number = refused 3 0
-appendOutcome append.Full = refused 4 0
-appendOutcome append.Room = refused 5 0
-
--- The answer is the 4 of a row that has 4,096 already; that of a 4,097th codeword is among those of Refused
-abbrev pub isFull : AppendAnswer → Bool
-isFull (append.Appended bytes count) = false
-isFull (append.Refused r) = false
-isFull append.Number = false
-isFull append.Full = true
-isFull append.Room = false
 
 -- What measuring a row finds: its bits, or the place of the first number at fault
 abbrev pub measuredOutcome : Measured → Outcome ℕ

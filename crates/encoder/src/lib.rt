@@ -1,14 +1,14 @@
-// Writing a row as its encoding of order 2 to 6, and appending a number to an encoding.
+// Writing a row as its encoding of order 2 to 6.
 ghost use mathlib.Core.Path.{_≡_};
 ghost use Prim.Native.Nat.{_+_, _*_, _≤_, _<_};
 ghost use lib.ListN.{length};
-ghost use Rattle.bits.specs.Bits.{unpack, byteCount, putAt};
+ghost use Rattle.bits.specs.Bits.{unpack, putAt};
 ghost use Rattle.fibonacci.specs.Code.{F, first, codeword};
 ghost use Rattle.fibonacci.specs.Encoding.{rowBits};
 ghost use Rattle.fibonacci.specs.Tables.{Order, tableRow};
-ghost use Rattle.fibonacci.specs.Calls.{accepted, Legal, largest, longest, mostBytes, checkEach};
-ghost use Rattle.encoder.specs.Writing.{write, writeInto, append, appendFull, appendInto};
-ghost use Rattle.encoder.specs.Answers.{writeOutcome, appendOutcome, isFull, measuredOutcome};
+ghost use Rattle.fibonacci.specs.Calls.{accepted, Legal, largest, longest, checkEach};
+ghost use Rattle.encoder.specs.Writing.{write, writeInto};
+ghost use Rattle.encoder.specs.Answers.{writeOutcome, measuredOutcome};
 
 // The refusals' numbers are paper 01's.
 pub enum WriteAnswer {
@@ -23,19 +23,6 @@ pub enum WriteAnswer {
     Room,
 }
 
-pub enum AppendAnswer {
-    // The bytes now in use, and how many numbers they hold.
-    Appended { bytes: usize, count: usize },
-    // 1, 2, 4, 7, 6: the encoding in the buffer is not read; also 2 where its bytes pass the buffer.
-    Refused(decoder::Refusal),
-    // 3: the number is 0.
-    Number,
-    // 4: the row has 4,096 numbers already.
-    Full,
-    // 5: the longer encoding passes the buffer.
-    Room,
-}
-
 // What measuring a row finds: how many bits its codewords have, or the place of the first number at fault.
 enum Measured {
     Bits(usize),
@@ -43,8 +30,8 @@ enum Measured {
 }
 
 // The codeword writer: the codeword of n after the first o bits of a part of a buffer, then zeros to the end of the byte; the result is its length.
-// Whoever writes has seen that it fits.
-fn put_codeword(
+// Writing and appending check the order and the number before, and have seen that it fits.
+pub fn put_codeword(
     part: &mut [u8],
     o: usize,
     positions: &[u32; 47],
@@ -118,55 +105,6 @@ pub fn write(order: usize, row: &[u32], out: &mut [u8]) -> WriteAnswer
             let positions = fibonacci::positions(order);
             put_row(out, &positions, &firsts, order, row);
             WriteAnswer::Written { bytes, bits }
-        }
-    }
-}
-
-// The codeword of n after the first bits of a buffer, from the byte with the first free bit. The result is how many bytes are then in use; where they pass
-// the buffer, it is 0 and nothing changes.
-fn extend(order: usize, buf: &mut [u8], bits: usize, n: u64) -> usize
-    requires { ⌜ Order order × (1 ≤ n) × (n ≤ largest) × (bits ≤ 8 * mostBytes) ⌝ }
-    ensures { λ r. ⌜ (byteCount (bits + length (codeword order n)) ≤ length (now (buf .entry)) → (r ≡ byteCount (bits + length (codeword order n))) × (unpack (now (buf .exit)) ≡ putAt bits (codeword order n) (unpack (now (buf .entry))))) × (length (now (buf .entry)) < byteCount (bits + length (codeword order n)) → (r ≡ 0) × (now (buf .exit) ≡ now (buf .entry))) ⌝ }
-{
-    let firsts = fibonacci::first_numbers(order);
-    let bytes = (bits + codewords::stem(&firsts, order, n) + order + 7) / 8;
-    if buf.len() < bytes {
-        return 0;
-    }
-    let positions = fibonacci::positions(order);
-    let k = bits / 8;
-    put_codeword(&mut buf[k..], bits % 8, &positions, &firsts, order, n);
-    bytes
-}
-
-// Appends a number to the encoding in the first `used` bytes of a buffer. The scan refuses where those are more than 24,064.
-pub fn append(order: usize, buf: &mut [u8], used: usize, n: u32) -> AppendAnswer
-    ensures { λ r. ⌜ (appendOutcome r ≡ append order (now (buf .entry)) used n) × (isFull r ≡ appendFull order (now (buf .entry)) used n) × (now (buf .exit) ≡ appendInto order (now (buf .entry)) used n) ⌝ }
-{
-    if !fibonacci::is_order(order) {
-        return AppendAnswer::Refused(decoder::Refusal::Order);
-    }
-    if used > buf.len() {
-        return AppendAnswer::Refused(decoder::Refusal::Bytes);
-    }
-    let scanned = decoder::scan(order, &buf[0..used], 0, 0);
-    match scanned {
-        decoder::ScanAnswer::Refused(r) => AppendAnswer::Refused(r),
-        decoder::ScanAnswer::Row(f) => {
-            if !fibonacci::is_number(fibonacci::wide(n), fibonacci::LARGEST) {
-                return AppendAnswer::Number;
-            }
-            if f.count == fibonacci::LONGEST {
-                return AppendAnswer::Full;
-            }
-            let bytes = extend(order, buf, f.bits, fibonacci::wide(n));
-            if bytes == 0 {
-                return AppendAnswer::Room;
-            }
-            AppendAnswer::Appended {
-                bytes,
-                count: f.count + 1,
-            }
         }
     }
 }

@@ -6,8 +6,8 @@ use borrow.Author.Needs.{needs}
 use Rattle.bits.proofs.Put.{put-part}
 use Rattle.fibonacci.specs.Code.{codeword}
 use Rattle.codewords.proofs.Codewords.{stem-long}
-use Rattle.encoder.proofs.extend.Statement.{statement}
-use Rattle.encoder.proofs.extend.Tie as tie
+use Rattle.appender.proofs.extend.Statement.{statement}
+use Rattle.appender.proofs.extend.Tie as tie
 
 first-numbers-requires : tie.Need-first-numbers-requires
 first-numbers-requires c κs = search needs

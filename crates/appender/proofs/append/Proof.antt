@@ -13,10 +13,10 @@ use Rattle.decoder.specs.declared.Found.{Found}
 use Rattle.decoder.specs.Reading.{decode}
 use Rattle.decoder.specs.Answers.{refusal, found}
 use Rattle.decoder.proofs.Decoding.{scan-row, scan-refused, decode-is}
-use Rattle.encoder.proofs.Appending.{append-order, append-past, Given, given-read, append-unread, append-number, append-full, append-bits, append-none, append-some}
+use Rattle.appender.proofs.Appending.{append-order, append-past, Given, given-read, append-unread, append-number, append-full, append-bits, append-none, append-some}
 use borrow.Author.Needs.{needs}
-use Rattle.encoder.proofs.append.Statement.{statement}
-use Rattle.encoder.proofs.append.Tie as tie
+use Rattle.appender.proofs.append.Statement.{statement}
+use Rattle.appender.proofs.append.Tie as tie
 
 ordered : (c : tie.Else1) → isOrder (c .before .before .before .args .order) ≡ true
 ordered c = sym (c .before .is-order .ensures) ∙ not-false _ (c .if1 .left)

@@ -7,7 +7,8 @@ use Rattle.bits.specs.Bits.{Bytes}
 use Rattle.fibonacci.specs.Encoding.{rowBits}
 use Rattle.fibonacci.specs.Calls.{Outcome, accepted, andThen}
 use Rattle.decoder.specs.Reading.{read, readInto}
-use Rattle.encoder.specs.Writing.{write, writeInto, append, appendInto}
+use Rattle.encoder.specs.Writing.{write, writeInto}
+use Rattle.appender.specs.Appending.{append, appendInto}
 
 -- The numbers of a list appended one after the other to a buffer with so many bytes in use and so many numbers in them: the buffer, its bytes in use and
 -- the count afterwards, or the first refusal

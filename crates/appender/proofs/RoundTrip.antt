@@ -21,11 +21,12 @@ use Rattle.decoder.specs.Reading.{decode, read, readInto}
 use Rattle.decoder.proofs.Decoding.{decode-is, decode-accepts, read-is, read-row}
 use Rattle.totals.specs.Totals.{total, repeatedTotal}
 use Rattle.totals.proofs.Totals.{total-sum, repeated-sum}
-use Rattle.encoder.specs.Writing.{write, writeInto, append, appendInto}
-use Rattle.encoder.specs.RoundTrip.{RoundTrip, appendAll}
+use Rattle.encoder.specs.Writing.{write, writeInto}
 use Rattle.encoder.proofs.Rows.{bits-few}
 use Rattle.encoder.proofs.Writing.{Writable, write-is, write-accepts}
-use Rattle.encoder.proofs.Appending.{Given, append-fits}
+use Rattle.appender.specs.Appending.{append, appendInto}
+use Rattle.appender.specs.RoundTrip.{RoundTrip, appendAll}
+use Rattle.appender.proofs.Appending.{Given, append-fits}
 
 -- ## Reading what was written
 
