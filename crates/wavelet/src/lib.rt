@@ -152,7 +152,7 @@ pub fn ones_in(b: &[u8], at: usize, k: usize) -> usize
 {
     let from = at / 8;
     let to = (at + k + 7) / 8;
-    bits::ones_from(&b[from..to], at % 8, k)
+    bit_counts::ones_from(&b[from..to], at % 8, k)
 }
 
 // Where the bitmaps below a string end that start at bit `at` and are of k numbers; one more than there are bits where they run past them. The questions

@@ -49,7 +49,7 @@ fn place_in(b: &[u8], at: usize, k: usize, v: bool, j: usize) -> usize
 {
     let from = at / 8;
     let to = (at + k + 7) / 8;
-    bits::place_of(&b[from..to], at % 8, k, v, j)
+    bit_counts::place_of(&b[from..to], at % 8, k, v, j)
 }
 
 // Walks the bitmaps of k numbers below a string, from bit `at` on, the way of the codeword x, for the use that has j others before it.

@@ -1,10 +1,10 @@
 use native.Mathlib.Omega.{arith}
 use lib.ListN.{take, drop, length-take}
 use borrow.Author.Needs.{needs}
 use Rattle.bits.specs.Bits.{unpack}
 use Rattle.bits.proofs.Place.{place-near}
-use Rattle.bits.proofs.place_of.Statement.{statement}
-use Rattle.bits.proofs.place_of.Tie as tie
+use Rattle.bit_counts.proofs.place_of.Statement.{statement}
+use Rattle.bit_counts.proofs.place_of.Tie as tie
 
 skip-requires : tie.Need-skip-requires
 skip-requires c κs = search needs

@@ -5,10 +5,10 @@ use native.Mathlib.Omega.{arith}
 use lib.ListN.{take}
 use lib.Count.{ones-le}
 use borrow.Author.Needs.{needs}
 use Rattle.bits.specs.Bits.{wordBits, unpack, count}
 use Rattle.bits.proofs.Count.{byte-bits, count-bytes}
-use Rattle.bits.proofs.ones_of_bytes.Statement.{statement}
-use Rattle.bits.proofs.ones_of_bytes.Tie as tie
+use Rattle.bit_counts.proofs.ones_of_bytes.Statement.{statement}
+use Rattle.bit_counts.proofs.ones_of_bytes.Tie as tie
 
 abbrev Inv-loop : tie.InvT-loop
 Inv-loop s from to n₀ i₀ n i = (from ≤ i) × (i ≤ to) × (n ≤ 8 * i) × (count true (unpack (take from s)) + n ≡ count true (unpack (take i s)))

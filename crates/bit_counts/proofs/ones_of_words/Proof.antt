@@ -5,10 +5,10 @@ use Prim.Native.Nat.{ℕ, _-_, _*_, _/_, _%_, _≤_}
 use native.Mathlib.Omega.{arith}
 use lib.ListN.{take}
 use lib.Count.{ones-le}
 use Rattle.bits.specs.Bits.{unpack, count}
 use Rattle.bits.proofs.Count.{count-bytes}
-use Rattle.bits.proofs.ones_of_words.Statement.{statement}
-use Rattle.bits.proofs.ones_of_words.Tie as tie
+use Rattle.bit_counts.proofs.ones_of_words.Statement.{statement}
+use Rattle.bit_counts.proofs.ones_of_words.Tie as tie
 
 abbrev Inv-loop : tie.InvT-loop
 Inv-loop s q n₀ i₀ n i = (i ≤ q) × (i % 8 ≡ 0) × (n ≤ 8 * i) × (n ≡ count true (unpack (take i s)))

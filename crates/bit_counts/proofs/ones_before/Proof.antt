@@ -3,10 +3,10 @@ use Prim.Native.Nat.{ℕ, _-_, _/_, _%_, _^_, _≤_, _<_}
 use native.Mathlib.Omega.{arith}
 use lib.Count.{ones, ones-le}
 use borrow.Author.Needs.{needs}
 use Rattle.bits.proofs.Bytes.{high-below}
 use Rattle.bits.proofs.Count.{count-few, count-whole, count-part}
-use Rattle.bits.proofs.ones_before.Statement.{statement}
-use Rattle.bits.proofs.ones_before.Tie as tie
+use Rattle.bit_counts.proofs.ones_before.Statement.{statement}
+use Rattle.bit_counts.proofs.ones_before.Tie as tie
 
 -- the first bits of a byte have no more ones than they are
 few : (x e : ℕ) → x < 256 → ones (x / 2 ^ (8 - e % 8)) ≤ e % 8

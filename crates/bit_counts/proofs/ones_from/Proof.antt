@@ -1,10 +1,10 @@
 use mathlib.Core.Bool.{true}
 use native.Mathlib.Omega.{arith}
 use borrow.Author.Needs.{needs}
 use Rattle.bits.specs.Bits.{unpack}
 use Rattle.bits.proofs.Count.{count-between}
-use Rattle.bits.proofs.ones_from.Statement.{statement}
-use Rattle.bits.proofs.ones_from.Tie as tie
+use Rattle.bit_counts.proofs.ones_from.Statement.{statement}
+use Rattle.bit_counts.proofs.ones_from.Tie as tie
 
 add-ones-before : tie.Need-add-ones-before
 add-ones-before c = search needs

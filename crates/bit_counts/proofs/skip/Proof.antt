@@ -4,11 +4,11 @@ use Prim.Native.Nat.{_+_, _-_, _≤_}
 use native.Mathlib.Omega.{arith}
 use lib.ListN.{take, drop}
 use borrow.Author.Needs.{needs}
 use Rattle.bits.specs.Bits.{unpack, count, place}
 use Rattle.bits.proofs.Bytes.{unpack-length}
 use Rattle.bits.proofs.Place.{step-bits, step-skipped}
-use Rattle.bits.proofs.skip.Statement.{statement}
-use Rattle.bits.proofs.skip.Tie as tie
+use Rattle.bit_counts.proofs.skip.Statement.{statement}
+use Rattle.bit_counts.proofs.skip.Tie as tie
 
 -- the bit searched for is the same
 abbrev Inv-loop : tie.InvT-loop

@@ -5,12 +5,12 @@ use Prim.Native.Nat.{ℕ, _+_, _-_, _*_, _/_, _%_, _≤_}
 use native.Mathlib.Omega.{arith}
 use lib.ListN.{length, take, drop, length-take, length-drop}
 use borrow.Author.Needs.{needs}
 use Rattle.bits.specs.Bits.{unpack, count}
 use Rattle.bits.proofs.Bytes.{unpack-length}
 use Rattle.bits.proofs.Count.{count-both}
 use Rattle.bits.proofs.Place.{part-bits}
-use Rattle.bits.proofs.count_from.Statement.{statement}
-use Rattle.bits.proofs.count_from.Tie as tie
+use Rattle.bit_counts.proofs.count_from.Statement.{statement}
+use Rattle.bit_counts.proofs.count_from.Tie as tie
 
 -- n bits of a slice from bit `at` on, of which r are ones, as counted in the part from the byte of bit `at` on
 module _ (s : List ℕ) (at n r : ℕ) (within : at + n ≤ 8 * length s)
