@@ -30,7 +30,7 @@ use Rattle.appender.proofs.Appending.{Given, append-fits}
 
 -- ## Reading what was written
 
-positive : (row : List ℕ) → Legal largest row → Positive row
+pub positive : (row : List ℕ) → Legal largest row → Positive row
 positive [] a = tt
 positive (n ∷ row) a = (number-is largest n (a .0) .0, positive row (a .1))
 
@@ -199,7 +199,7 @@ round-trip m = record { written-read = written-read m; read-written = read-writt
 abbrev pub largestRow : List ℕ
 largestRow = replicate longest largest
 
-legal-same : (k n : ℕ) → isNumber largest n ≡ true → Legal largest (replicate k n)
+pub legal-same : (k n : ℕ) → isNumber largest n ≡ true → Legal largest (replicate k n)
 legal-same zero n e = tt
 legal-same (suc k) n e = (e, legal-same k n e)
 

@@ -3,9 +3,9 @@ use mathlib.Core.Path.{_≡_, refl}
 use mathlib.Core.Bool.{Bool, true, false}
 use mathlib.Core.List.{List, [], _∷_}
 use Prim.Native.Nat.{ℕ}
-use lib.ListN.{length, take}
+use lib.ListN.{length}
 use Rattle.bits.specs.Bits.{bitOf, wordBits}
-use Rattle.fibonacci.specs.Code.{valuesFrom, past, F, value, first, number, digits, size, codeword}
+use Rattle.fibonacci.specs.Code.{valuesFrom, past, F, first, digits, size, codeword}
 use Rattle.fibonacci.specs.Encoding.{parsed, parse, parseAfter}
 use Rattle.fibonacci.specs.Calls.{largest}
 
@@ -70,15 +70,6 @@ table-2 : valuesFrom (λ n. codeword 2 n ∷ codeword 3 n ∷ codeword 4 n ∷ [
     line 0b1_100000011 0b1_011000111 0b1_1100001111 ∷ []
 unfolding line word wordBits bitOf codeword size digits first F past
 table-2 = refl
-
--- Paper 01, P3: 600 in order 3, of relative number 273 and first number 327
-six-hundred : codeword 3 600 ≡ word 0b1_0110110110111
-unfolding word wordBits bitOf codeword size digits first F past
-six-hundred = refl
-
-six-hundred-back : (number 3 (codeword 3 600) ≡ 600) × (value 3 1 (take 9 (codeword 3 600)) ≡ 273) × (first 3 10 ≡ 327)
-unfolding number value codeword size digits first F past
-six-hundred-back = (refl, refl, refl)
 
 -- Paper 01: the longest codeword of a legal number has 47 bits
 longest : valuesFrom (λ m. length (codeword m largest)) 2 5 ≡ 47 ∷ 39 ∷ 38 ∷ 38 ∷ 39 ∷ []

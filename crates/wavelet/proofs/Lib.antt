@@ -14,4 +14,3 @@ pub mod Exact
 pub mod Sides
 pub mod Depth
 pub mod Answering
-pub mod Computed

@@ -1,0 +1,18 @@
+-- The table of paper 01's examples, computed.
+use mathlib.Core.Path.{refl}
+use mathlib.Core.List.{flatten}
+use Rattle.bits.specs.Bits.{bitOf, wordBits, unpack, wordOf, bytesOf, pack, count, place}
+use Rattle.fibonacci.specs.Code.{past, F, value, first, number, size, digits, codeword}
+use Rattle.fibonacci.specs.Encoding.{rowBits, encoding, parseAfter, parse, numbers}
+use Rattle.fibonacci.specs.Calls.{isOrder, isNumber, checkEach}
+use Rattle.decoder.specs.Reading.{checkFinished, contents, decode, read, readInto}
+use Rattle.totals.specs.Totals.{total}
+use Rattle.encoder.specs.Writing.{write, writeInto}
+use Rattle.wavelet.specs.Nodes.{those, begins, goesOn, prune, tree, nodes, visits}
+use Rattle.wavelet.specs.Bitmaps.{bitmap, joined, bitmaps, index, need, merge, held, isIndex, rowOf}
+use Rattle.wavelet.specs.Questions.{build, buildInto, rankIn, selectIn, extract, rank, select}
+use Rattle.worked.specs.Pencil.{Pencil, answer}
+
+pub pencil-holds : Pencil
+unfolding answer flatten bitOf wordBits unpack wordOf bytesOf pack count place past F value first number size digits codeword rowBits encoding parseAfter parse numbers isOrder isNumber checkEach checkFinished contents decode read readInto total write writeInto those begins goesOn prune tree nodes visits bitmap joined bitmaps index need merge held isIndex rowOf build buildInto rankIn selectIn extract rank select
+pencil-holds = refl

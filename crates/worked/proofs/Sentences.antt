@@ -1,0 +1,103 @@
+-- The sentences under the table of examples.
+use mathlib.Core.Path.{_≡_, refl, sym, ap, ap₂, _∙_}
+use mathlib.Core.Bool.{true}
+use mathlib.Core.List.{List, [], _∷_, _++_, flatten}
+use Prim.Native.Nat.{ℕ, zero, suc, _*_, _≤_}
+use native.Mathlib.Omega.{arith}
+use native.Mathlib.Nat.{suc-mul}
+use lib.ListN.{length, take, length-append, length-replicate}
+use lib.Seq.{take-append-seam}
+use borrow.Author.Tests.{lt-ltb}
+use Rattle.bits.specs.Bits.{bitOf, wordBits, unpack, wordOf, bytesOf, byteCount, pack, count}
+use Rattle.bits.proofs.Packing.{pack-length}
+use Rattle.fibonacci.specs.Code.{past, F, value, first, number, size, digits, codeword}
+use Rattle.fibonacci.specs.Encoding.{rowBits, encoding, parseAfter, parse, numbers}
+use Rattle.fibonacci.specs.Tables.{Order}
+use Rattle.fibonacci.specs.Calls.{accepted, refused, isOrder, isNumber, Legal, largest, longest, checkEach}
+use Rattle.fibonacci.proofs.Checks.{is-order}
+use Rattle.fibonacci.proofs.Rows.{encoding-read}
+use Rattle.decoder.specs.Reading.{checkFinished, contents, decode, read, readInto}
+use Rattle.decoder.proofs.Checking.{contents-many}
+use Rattle.decoder.proofs.Decoding.{decode-contents}
+use Rattle.encoder.specs.Writing.{write}
+use Rattle.encoder.proofs.Writing.{write-accepts}
+use Rattle.appender.specs.Appending.{append}
+use Rattle.appender.proofs.Appending.{given-read, append-full}
+use Rattle.appender.proofs.RoundTrip.{positive, decode-encoding, legal-same}
+use Rattle.worked.specs.Pencil.{answer}
+use Rattle.worked.specs.Sentences.{onesRow, Largest, Sentences}
+
+-- ## 4,096 ones
+
+ones-legal : (k : ℕ) → Legal largest (onesRow k)
+unfolding onesRow isNumber
+ones-legal k = legal-same k 1 refl
+
+ones-length : (k : ℕ) → length (onesRow k) ≡ k
+unfolding onesRow
+ones-length k = length-replicate {A = ℕ} k 1
+
+-- each is m bits
+ones-bits : (m k : ℕ) → length (rowBits m (onesRow k)) ≡ k * m
+unfolding onesRow rowBits flatten codeword size first digits
+ones-bits m zero = omega arith
+ones-bits m (suc k) =
+    omega (arith, length-append (codeword m 1) (rowBits m (onesRow k)), length-replicate m true, ones-bits m k, suc-mul k m)
+
+ones-bytes : (m k : ℕ) → length (encoding m (onesRow k)) ≡ byteCount (k * m)
+unfolding encoding
+ones-bytes m k = pack-length (rowBits m (onesRow k)) ∙ ap byteCount (ones-bits m k)
+
+-- the last of one more
+ones-more : (k : ℕ) → onesRow (suc k) ≡ onesRow k ++ (1 ∷ [])
+unfolding onesRow
+ones-more zero = refl
+ones-more (suc k) = ap (λ (l : List ℕ). 1 ∷ l) (ones-more k)
+
+module _ (m : ℕ) (o : Order m) where
+  full-bytes : length (encoding m (onesRow longest)) ≡ 512 * m
+  full-bytes = omega (arith, ones-bytes m longest)
+
+  full : (room : ℕ) → 512 * m ≤ room → write m (onesRow longest) room ≡ accepted (512 * m, 4096 * m)
+  full room h =
+      write-accepts m (onesRow longest) room
+      (record { order = o; count = omega (arith, ones-length longest); legal = ones-legal longest; fits = omega (arith, full-bytes) })
+      ∙ ap₂ (λ (k n : ℕ). accepted (k, n)) full-bytes (ones-bits m longest)
+
+  written : (room : ℕ) → write m (onesRow (suc longest)) room ≡ refused 4 0
+  unfolding write
+  written room = rw (is-order m o, lt-ltb longest (length (onesRow (suc longest))) (omega (arith, ones-length (suc longest))))
+
+  decoded : decode m (encoding m (onesRow (suc longest))) ≡ refused 4 0
+  decoded =
+      decode-contents m (encoding m (onesRow (suc longest))) (is-order m o) (omega (arith, ones-bytes m (suc longest)))
+      ∙ contents-many largest m (unpack (encoding m (onesRow (suc longest)))) (onesRow longest) (ones-legal longest) 1 []
+      (encoding-read m (onesRow (suc longest)) (omega arith) (positive (onesRow (suc longest)) (ones-legal (suc longest))) ∙ ones-more longest)
+      (ones-length longest)
+
+  read-back : (room : ℕ) → read m (encoding m (onesRow (suc longest))) room ≡ refused 4 0
+  unfolding read
+  read-back room = rw decoded
+
+  appended : (after : List ℕ) → append m (encoding m (onesRow longest) ++ after) (512 * m) 1 ≡ refused 4 0
+  unfolding isNumber
+  appended after =
+      let s : List ℕ = encoding m (onesRow longest) in
+      let front : take (512 * m) (s ++ after) ≡ s = ap (λ (k : ℕ). take k (s ++ after)) (sym full-bytes) ∙ take-append-seam s after in
+      let held : decode m (take (512 * m) (s ++ after)) ≡ accepted (onesRow longest) =
+      ap (decode m) front ∙ decode-encoding m (onesRow longest) o (omega (arith, ones-length longest)) (ones-legal longest) in
+      let given = given-read m (s ++ after) (512 * m) (onesRow longest) (omega (arith, length-append s after, full-bytes)) held in
+      sym (append-full m (s ++ after) (512 * m) 1 given (onesRow longest) held refl (ones-length longest) .0)
+
+-- ## The largest number
+
+largest-number : Largest
+unfolding answer flatten bitOf wordBits unpack wordOf bytesOf pack count past F value first number size digits codeword rowBits encoding parseAfter parse numbers isOrder isNumber checkEach checkFinished contents decode read readInto write
+largest-number = record { written = refl; read-back = refl; next = refl }
+
+pub sentences-hold : Sentences
+sentences-hold =
+    record {
+      ones = λ m o. record { full = full m o; written = written m o; read-back = read-back m o; appended = appended m o };
+      largest-number = largest-number;
+    }
