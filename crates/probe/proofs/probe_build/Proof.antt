@@ -1,0 +1,32 @@
+use Rattle.probe.proofs.Telling.{tells-single}
+use borrow.Author.Needs.{needs}
+use Rattle.probe.proofs.probe_build.Statement.{statement}
+use Rattle.probe.proofs.probe_build.Tie as tie
+
+build-requires : tie.Need-build-requires
+build-requires c κs = search needs
+
+of-build-requires : tie.Need-of-build-requires
+of-build-requires c κs = search needs
+
+tell-requires : tie.Need-tell-requires
+tell-requires c κs = search needs
+
+same-length : tie.Need-same-length
+same-length c = search needs
+
+same-length-2 : tie.Need-same-length-2
+same-length-2 c = search needs
+
+returns : tie.Need-returns
+returns c =
+    let t = c .before .before in
+    let o = t .before in
+    let w = o .before .before .before in
+    let a = w .before .before .before .before .before .before .args in
+    (tells-single (a .answer .now) _ (o .of-build .result) (t .tell .ensures) (o .of-build .ensures) (w .build .ensures .0), w .build .ensures .1)
+
+pub probe-build-spec : {M : Type 1} → statement M
+probe-build-spec =
+    tie.close
+    (tie.spec build-requires of-build-requires tell-requires same-length same-length-2 returns)

@@ -1,0 +1,28 @@
+use Rattle.probe.proofs.Telling.{tells}
+use borrow.Author.Needs.{needs}
+use Rattle.probe.proofs.probe_rank.Statement.{statement}
+use Rattle.probe.proofs.probe_rank.Tie as tie
+
+rank-requires : tie.Need-rank-requires
+rank-requires c κs = search needs
+
+of-rank-requires : tie.Need-of-rank-requires
+of-rank-requires c κs = search needs
+
+tell-requires : tie.Need-tell-requires
+tell-requires c κs = search needs
+
+same-length : tie.Need-same-length
+same-length c = search needs
+
+returns : tie.Need-returns
+returns c =
+    let t = c .before .before in
+    let o = t .before in
+    let w = o .before in
+    let a = w .before .before .before .before .args in
+    tells (a .answer .now) _ (o .of-rank .result) (t .tell .ensures) (o .of-rank .ensures) (w .rank .ensures)
+
+pub probe-rank-spec : {M : Type 1} → statement M
+probe-rank-spec =
+    tie.close (tie.spec rank-requires of-rank-requires tell-requires same-length returns)

@@ -1,0 +1,28 @@
+use Rattle.probe.proofs.Telling.{tells}
+use borrow.Author.Needs.{needs}
+use Rattle.probe.proofs.probe_select.Statement.{statement}
+use Rattle.probe.proofs.probe_select.Tie as tie
+
+select-requires : tie.Need-select-requires
+select-requires c κs = search needs
+
+of-select-requires : tie.Need-of-select-requires
+of-select-requires c κs = search needs
+
+tell-requires : tie.Need-tell-requires
+tell-requires c κs = search needs
+
+same-length : tie.Need-same-length
+same-length c = search needs
+
+returns : tie.Need-returns
+returns c =
+    let t = c .before .before in
+    let o = t .before in
+    let w = o .before in
+    let a = w .before .before .before .before .args in
+    tells (a .answer .now) _ (o .of-select .result) (t .tell .ensures) (o .of-select .ensures) (w .select .ensures)
+
+pub probe-select-spec : {M : Type 1} → statement M
+probe-select-spec =
+    tie.close (tie.spec select-requires of-select-requires tell-requires same-length returns)

@@ -1,0 +1,32 @@
+use Rattle.probe.proofs.Telling.{tells}
+use borrow.Author.Needs.{needs}
+use Rattle.probe.proofs.probe_write.Statement.{statement}
+use Rattle.probe.proofs.probe_write.Tie as tie
+
+write-requires : tie.Need-write-requires
+write-requires c κs = search needs
+
+of-write-requires : tie.Need-of-write-requires
+of-write-requires c κs = search needs
+
+tell-requires : tie.Need-tell-requires
+tell-requires c κs = search needs
+
+same-length : tie.Need-same-length
+same-length c = search needs
+
+same-length-2 : tie.Need-same-length-2
+same-length-2 c = search needs
+
+returns : tie.Need-returns
+returns c =
+    let t = c .before .before in
+    let o = t .before in
+    let w = o .before .before .before in
+    let a = w .before .before .before .before .before .before .args in
+    (tells (a .answer .now) _ (o .of-write .result) (t .tell .ensures) (o .of-write .ensures) (w .write .ensures .0), w .write .ensures .1)
+
+pub probe-write-spec : {M : Type 1} → statement M
+probe-write-spec =
+    tie.close
+    (tie.spec write-requires of-write-requires tell-requires same-length same-length-2 returns)
