@@ -7,6 +7,7 @@ ghost use lib.ListN.{length};
 ghost use Rattle.decoder.specs.Reading.{read, readInto};
 ghost use Rattle.totals.specs.Totals.{total, repeatedTotal};
 ghost use Rattle.encoder.specs.Writing.{write, writeInto};
+ghost use Rattle.appender.specs.Appending.{append, appendInto};
 ghost use Rattle.table_decoder.specs.Reading.{readBytes, readBytesInto};
 ghost use Rattle.wavelet.specs.Questions.{build, buildInto, extract, rank, select};
 ghost use Rattle.probe.specs.Probe.{reportInto, single};
@@ -37,6 +38,22 @@ pub extern "C" fn probe_table_read_bytes(s: &[u8], out: &mut [u8], answer: &mut 
     ensures { λ r. ⌜ (now (answer .exit) ≡ reportInto (single (readBytes (now (s .entry)) (length (now (out .entry))))) (now (answer .entry))) × (now (out .exit) ≡ readBytesInto (now (s .entry)) (now (out .entry))) ⌝ }
 {
     report::tell(answer, report::of_read(table_decoder::read_bytes(s, out)));
+}
+
+#[no_mangle]
+pub extern "C" fn probe_append(
+    order: usize,
+    buf: &mut [u8],
+    used: usize,
+    n: u32,
+    answer: &mut [u64],
+)
+    ensures { λ r. ⌜ (now (answer .exit) ≡ reportInto (append order (now (buf .entry)) used n) (now (answer .entry))) × (now (buf .exit) ≡ appendInto order (now (buf .entry)) used n) ⌝ }
+{
+    report::tell(
+        answer,
+        report::of_append(appender::append(order, buf, used, n)),
+    );
 }
 
 #[no_mangle]

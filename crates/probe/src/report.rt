@@ -6,6 +6,7 @@ ghost use Rattle.fibonacci.specs.Calls.{accepted, refused};
 ghost use Rattle.decoder.specs.Answers.{refusal, readOutcome};
 ghost use Rattle.totals.specs.Totals.{totalOutcome, repeatedOutcome};
 ghost use Rattle.encoder.specs.Answers.{writeOutcome};
+ghost use Rattle.appender.specs.Answers.{appendOutcome};
 ghost use Rattle.wavelet.specs.Answers.{treeRefusal};
 ghost use Rattle.wavelet_build.specs.Building.{buildOutcome};
 ghost use Rattle.wavelet_query.specs.Asking.{extractOutcome, rankOutcome};
@@ -103,6 +104,18 @@ pub fn of_read(a: decoder::ReadAnswer) -> Report
         decoder::ReadAnswer::Row(count) => yes(count as u64, 0),
         decoder::ReadAnswer::Refused(r) => unread(r),
         decoder::ReadAnswer::Room => no(5, 0),
+    }
+}
+
+pub fn of_append(a: appender::AppendAnswer) -> Report
+    ensures { λ r. ⌜ values r ≡ report (appendOutcome a) ⌝ }
+{
+    match a {
+        appender::AppendAnswer::Appended { bytes, count } => yes(bytes as u64, count as u64),
+        appender::AppendAnswer::Refused(r) => unread(r),
+        appender::AppendAnswer::Number => no(3, 0),
+        appender::AppendAnswer::Full => no(4, 0),
+        appender::AppendAnswer::Room => no(5, 0),
     }
 }
 

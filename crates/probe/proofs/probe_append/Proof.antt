@@ -1,0 +1,32 @@
+use Rattle.probe.proofs.Telling.{tells}
+use borrow.Author.Needs.{needs}
+use Rattle.probe.proofs.probe_append.Statement.{statement}
+use Rattle.probe.proofs.probe_append.Tie as tie
+
+append-requires : tie.Need-append-requires
+append-requires c κs = search needs
+
+of-append-requires : tie.Need-of-append-requires
+of-append-requires c κs = search needs
+
+tell-requires : tie.Need-tell-requires
+tell-requires c κs = search needs
+
+same-length : tie.Need-same-length
+same-length c = search needs
+
+same-length-2 : tie.Need-same-length-2
+same-length-2 c = search needs
+
+returns : tie.Need-returns
+returns c =
+    let t = c .before .before in
+    let o = t .before in
+    let w = o .before .before .before in
+    let a = w .before .before .before .before .before .args in
+    (tells (a .answer .now) _ (o .of-append .result) (t .tell .ensures) (o .of-append .ensures) (w .append .ensures .0), w .append .ensures .2)
+
+pub probe-append-spec : {M : Type 1} → statement M
+probe-append-spec =
+    tie.close
+    (tie.spec append-requires of-append-requires tell-requires same-length same-length-2 returns)
