@@ -47,29 +47,66 @@ fn refusal_at(number: u64, place: usize) -> Refusal {
 
 // ---- The code of order m ----
 
-/// F(0) to F(top): F(0) is 1, and each further value is the sum of the m values before it, those before F(0) being 0. Values that pass 128 bits stay at
-/// the largest number there is.
-pub fn f(m: usize, top: usize) -> Vec<u128> {
-    let mut values: Vec<u128> = vec![1];
-    for n in 1..=top {
-        let mut sum: u128 = 0;
-        for back in 1..=m {
-            if back <= n {
-                sum = sum.saturating_add(values[n - back]);
-            }
-        }
-        values.push(sum);
-    }
-    values
+/// What is worked out of an order once and then kept. Sums that pass 128 bits stay at the largest number there is.
+struct Order {
+    m: usize,
+    /// F(0), F(1), ..
+    f: Vec<u128>,
+    /// The first numbers of the lengths m + 1, m + 2, ..
+    first_numbers: Vec<u128>,
+    /// For 0, 1, .. digits, in how many ways they can stand before k ones, k below m, so that m ones never come in a row.
+    ways: Vec<Vec<u128>>,
 }
 
-/// The first number of length s + m + 1: 2 + F(1) + .. + F(s).
-pub fn first_number(m: usize, s: usize) -> u128 {
-    let mut sum: u128 = 2;
-    for value in &f(m, s)[1..] {
-        sum = sum.saturating_add(*value);
+impl Order {
+    fn new(m: usize) -> Order {
+        Order { m, f: vec![1], first_numbers: vec![2], ways: vec![vec![1; m]] }
     }
-    sum
+
+    /// F(n): F(0) is 1, and each further value is the sum of the m values before it, those before F(0) being 0.
+    fn f(&mut self, n: usize) -> u128 {
+        for i in self.f.len()..=n {
+            let before = &self.f[i - self.m.min(i)..];
+            let sum = before.iter().fold(0, |sum: u128, value| sum.saturating_add(*value));
+            self.f.push(sum);
+        }
+        self.f[n]
+    }
+
+    /// The first number of length s + m + 1: 2 + F(1) + .. + F(s).
+    fn first_number(&mut self, s: usize) -> u128 {
+        for i in self.first_numbers.len()..=s {
+            let sum = self.first_numbers[i - 1].saturating_add(self.f(i));
+            self.first_numbers.push(sum);
+        }
+        self.first_numbers[s]
+    }
+
+    /// In how many ways j digits can be chosen so that m ones never come in a row.
+    fn choices(&mut self, j: usize) -> u128 {
+        for i in self.ways.len()..=j {
+            let fewer = &self.ways[i - 1];
+            let mut more: Vec<u128> = Vec::new();
+            for k in 0..self.m {
+                let with_zero = fewer[0];
+                let with_one = if k + 1 < self.m { fewer[k + 1] } else { 0 };
+                more.push(with_zero + with_one);
+            }
+            self.ways.push(more);
+        }
+        self.ways[j][0]
+    }
+}
+
+/// What is kept of an order.
+fn of_order<R>(m: usize, work: impl FnOnce(&mut Order) -> R) -> R {
+    thread_local!(static KEPT: RefCell<HashMap<usize, Order>> = RefCell::new(HashMap::new()));
+    KEPT.with(|kept| work(kept.borrow_mut().entry(m).or_insert_with(|| Order::new(m))))
+}
+
+/// The first number of length s + m + 1.
+pub fn first_number(m: usize, s: usize) -> u128 {
+    of_order(m, |order| order.first_number(s))
 }
 
 /// The number of a codeword: 1 for m ones; else the first number of its length and F(j) for each digit j that is one, the leftmost digit being j = 1.
@@ -78,30 +115,15 @@ pub fn number(m: usize, codeword: &[bool]) -> u128 {
         return 1;
     }
     let s = codeword.len() - m - 1;
-    let values = f(m, s);
-    let mut sum = first_number(m, s);
-    for j in 1..=s {
-        if codeword[j - 1] {
-            sum = sum.saturating_add(values[j]);
+    of_order(m, |order| {
+        let mut sum = order.first_number(s);
+        for j in 1..=s {
+            if codeword[j - 1] {
+                sum = sum.saturating_add(order.f(j));
+            }
         }
-    }
-    sum
-}
-
-/// In how many ways j digits can be chosen so that m ones never come in a row.
-fn choices(m: usize, j: usize) -> u128 {
-    // ways[k] is in how many ways the digits so far can stand before k ones; with no digit there is one way
-    let mut ways: Vec<u128> = vec![1; m];
-    for _ in 0..j {
-        let mut more: Vec<u128> = Vec::new();
-        for k in 0..m {
-            let with_zero = ways[0];
-            let with_one = if k + 1 < m { ways[k + 1] } else { 0 };
-            more.push(with_zero + with_one);
-        }
-        ways = more;
-    }
-    ways[0]
+        sum
+    })
 }
 
 /// The codeword of a number. The digit strings of one length are counted through: those whose last digit is zero come before those whose last digit is
@@ -118,7 +140,7 @@ pub fn codeword(m: usize, n: u128) -> Vec<bool> {
     let mut bits = vec![false; s];
     let mut ones = 0;
     for j in (1..=s).rev() {
-        let with_zero = choices(m, j - 1);
+        let with_zero = of_order(m, |order| order.choices(j - 1));
         if left < with_zero {
             ones = 0;
         } else {
@@ -252,6 +274,30 @@ pub fn read(order: u64, bytes: &[u8], output: &mut [u32]) -> Answer<u64> {
     Answer::yes(row.len() as u64)
 }
 
+/// Reading with the byte reader: an encoding of order 3, with no check of an order.
+pub fn table_read(bytes: &[u8], output: &mut [u32]) -> Answer<u64> {
+    read(3, bytes, output)
+}
+
+/// The same for a host that takes four bytes for each number, the lowest first; 5 is then fewer than four bytes for each number.
+pub fn table_read_bytes(bytes: &[u8], output: &mut [u8]) -> Answer<u64> {
+    let row = match row_of(3, bytes) {
+        Ok(row) => row,
+        Err(refusal) => return Answer::no(refusal),
+    };
+    if output.len() < 4 * row.len() {
+        return Answer::no(refusal(5));
+    }
+    for (place, n) in row.iter().enumerate() {
+        let mut left = *n;
+        for byte in &mut output[4 * place..4 * place + 4] {
+            *byte = (left % 256) as u8;
+            left /= 256;
+        }
+    }
+    Answer::yes(row.len() as u64)
+}
+
 /// Appending a number to the encoding in the first bytes of a buffer: the bytes then in use and the numbers in them. The longer encoding is what
 /// writing the longer row gives.
 pub fn append(order: u64, buffer: &mut [u8], used: u64, n: u32) -> Answer<(u64, u64)> {
@@ -354,12 +400,24 @@ impl Tree {
         let mut nodes = Vec::new();
         join(&begins, &[], &mut nodes);
         assert_eq!(nodes.len(), alphabet - 1);
-        let after = |string: &[bool]| match nodes.iter().position(|node| node.starts_with(string)) {
-            Some(node) => Next::Node(node),
-            None => Next::Number(1 + codewords.iter().position(|codeword| codeword.starts_with(string)).unwrap() as u32),
+        let at: HashMap<&[bool], usize> = nodes.iter().enumerate().map(|(i, node)| (&node[..], i)).collect();
+        let number_of: HashMap<&[bool], u32> = codewords.iter().zip(1..).map(|(codeword, n)| (&codeword[..], n)).collect();
+        // a string that is no node goes on in one way, to a node or to the end of a codeword
+        let after = |node: &[bool], bit: bool| {
+            let mut string = with(node, bit);
+            loop {
+                if let Some(node) = at.get(&string[..]) {
+                    return Next::Node(*node);
+                }
+                if let Some(n) = number_of.get(&string[..]) {
+                    return Next::Number(*n);
+                }
+                let zero = begins.contains(&with(&string, false));
+                string.push(!zero);
+            }
         };
-        let next = nodes.iter().map(|node| [after(&with(node, false)), after(&with(node, true))]).collect();
-        let path = |codeword: &Vec<bool>| (0..nodes.len()).filter(|node| codeword.starts_with(&nodes[*node])).collect();
+        let next = nodes.iter().map(|node| [after(node, false), after(node, true)]).collect();
+        let path = |codeword: &Vec<bool>| (0..codeword.len()).filter_map(|length| at.get(&codeword[..length]).copied()).collect();
         let paths = codewords.iter().map(path).collect();
         Tree { codewords, nodes, next, paths }
     }
@@ -506,4 +564,71 @@ pub fn ask(order: u64, alphabet: u64, length: u64, bytes: &[u8], question: impl 
         Ok(index) => question(&index),
         Err(refusal) => Answer::no(refusal),
     }
+}
+
+// ---- The listing ----
+
+/// A decimal number of the input, perhaps above what the calls take.
+type Decimal = u64;
+
+/// The numbers of the input's lines, or nothing where a line has another form or there is none. The characters are looked at one by one: in each line ten
+/// columns, spaces and then digits, and a line feed; a 0 is the first digit only where it is the one digit.
+fn lines(input: &[u8]) -> Option<Vec<Decimal>> {
+    let mut numbers = Vec::new();
+    let mut column = 0;
+    let mut number: Option<Decimal> = None;
+    for character in input {
+        match (column, *character, number) {
+            (0..=9, b' ', None) => (),
+            (9, b'0', None) => number = Some(0),
+            (0..=9, b'1'..=b'9', None) => number = Some((*character - b'0') as Decimal),
+            (0..=9, b'0'..=b'9', Some(n)) => number = Some(10 * n + (*character - b'0') as Decimal),
+            (10, b'\n', Some(n)) => {
+                numbers.push(n);
+                number = None;
+                column = 0;
+                continue;
+            }
+            _ => return None,
+        }
+        column += 1;
+    }
+    if column != 0 || numbers.is_empty() {
+        return None;
+    }
+    Some(numbers)
+}
+
+/// The first number is the order, the others the row, on which the checks of writing follow; 3 also means above 4,294,967,295.
+fn listed(input: &[u8]) -> Result<String, u64> {
+    if input.len() > 45_067 {
+        return Err(4);
+    }
+    let numbers = lines(input).ok_or(13u64)?;
+    let (order, row) = (numbers[0], &numbers[1..]);
+    if !(2..=6).contains(&order) {
+        return Err(1);
+    }
+    if row.len() > LONGEST {
+        return Err(4);
+    }
+    if row.iter().any(|n| *n == 0 || *n as u128 > LARGEST) {
+        return Err(3);
+    }
+    let mut text = format!("{:>5}{:>11}{:>5}{:>16}\n", "PLACE", "NUMBER", "BITS", "TOTAL");
+    let mut bits = 0;
+    let mut total: u64 = 0;
+    for (place, n) in row.iter().enumerate() {
+        let length = codeword(order as usize, *n as u128).len();
+        bits += length;
+        total += n;
+        text += &format!("{place:>5}{n:>11}{length:>5}{total:>16}\n");
+    }
+    text += &format!("{:<5}{:>11}\n", "BYTES", (bits + 7) / 8);
+    Ok(text)
+}
+
+/// What the listing program prints: the listing, or one line with the number of the refusal.
+pub fn listing(input: &[u8]) -> Vec<u8> {
+    listed(input).unwrap_or_else(|number| format!("{:<2}{number:>5}\n", "NO")).into_bytes()
 }
