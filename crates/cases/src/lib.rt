@@ -1,42 +1,7 @@
 // What the programs of cases print, a line for each call: text, numbers, the whole content of a buffer, and an answer as paper 01 has it.
 ghost use mathlib.Core.Path.{_≡_};
 ghost use Prim.Native.Nat.{_+_, _*_, _%_, _<_};
-
-// An answer: its number, the place of a fault, and one or two results, which a refusal leaves at 0.
-pub struct Answer {
-    pub number: u64,
-    pub place: u64,
-    pub first: u64,
-    pub second: u64,
-}
-
-pub fn accepted(first: u64, second: u64) -> Answer
-    ensures { λ r. ⌜ (r .number ≡ 0) × (r .place ≡ 0) × (r .first ≡ first) × (r .second ≡ second) ⌝ }
-{
-    Answer {
-        number: 0,
-        place: 0,
-        first,
-        second,
-    }
-}
-
-pub fn refused_at(number: u64, place: u64) -> Answer
-    ensures { λ r. ⌜ (r .number ≡ number) × (r .place ≡ place) × (r .first ≡ 0) × (r .second ≡ 0) ⌝ }
-{
-    Answer {
-        number,
-        place,
-        first: 0,
-        second: 0,
-    }
-}
-
-pub fn refused(number: u64) -> Answer
-    ensures { λ r. ⌜ (r .number ≡ number) × (r .place ≡ 0) × (r .first ≡ 0) × (r .second ≡ 0) ⌝ }
-{
-    refused_at(number, 0)
-}
+use answers::Answer;
 
 pub fn text(t: &[u8]) {
     io::write_all(1, t);

@@ -5,7 +5,7 @@ use crate::calls::append;
 use crate::calls::append_to;
 use crate::calls::append_used;
 use crate::calls::write_into;
-use cases::Answer;
+use answers::Answer;
 
 fn append_next(order: usize, buf: &mut [u8], used: usize, n: u32) -> Answer {
     append(b"one after the other", order, buf, used, n)

@@ -1,8 +1,7 @@
 // Each call of the library gives one line: what it was called on, its answer, and what the buffer that it may write holds after it. A fresh buffer is
 // filled with bytes A5, or numbers 7777777, so that what a call leaves alone shows. The most that a case asks for is 24,080 bytes and 4,100 numbers.
 ghost use Prim.Native.Nat.{_≤_};
-use crate::answers;
-use cases::Answer;
+use answers::Answer;
 use cases::end;
 use cases::number;
 use cases::print;

@@ -1,6 +1,5 @@
 // The edges of writing, reading, appending and totals: a line for each call. What it prints is compared with what a separate model makes of the same
 // calls.
-mod answers;
 mod appending;
 mod calls;
 mod encodings;

@@ -1,6 +1,5 @@
 // Each call of the library gives one line: what it was called on, its answer, and what the buffer that it may write holds after it. A fresh buffer is
 // filled with bytes A5, so that what a call leaves alone shows.
-use crate::answers;
 use cases::end;
 use cases::print;
 use cases::print_two;
@@ -16,6 +15,11 @@ fn begin(name: &[u8], call: &[u8], order: usize, alphabet: u32) {
     with_number(b", alphabet ", wide_number(alphabet));
 }
 
+// How many bytes so many bits take.
+pub fn bytes_of(bits: u64) -> usize {
+    (bits / 8 + (bits % 8 + 7) / 8) as usize
+}
+
 // The result is how many bytes the index has, 0 after a refusal.
 pub fn build(name: &[u8], order: usize, alphabet: u32, row: &[u32], out: &mut [u8]) -> usize {
     begin(name, b": build, order ", order, alphabet);
@@ -24,7 +28,7 @@ pub fn build(name: &[u8], order: usize, alphabet: u32, row: &[u32], out: &mut [u
     print(a, b", bits ");
     with_bytes(b"; output", out);
     end();
-    answers::bytes_of(a.first)
+    bytes_of(a.first)
 }
 
 // Building into a fresh buffer of so many bytes.

@@ -1,5 +1,4 @@
 // The papers' examples.
-use crate::answers;
 use crate::calls::build;
 use crate::calls::build_into;
 use crate::calls::extract;

@@ -2,7 +2,7 @@
 ghost use Prim.Native.Nat.{_≤_, _<_};
 ghost use mathlib.Core.Path.{_≡_};
 ghost use lib.ListN.{length};
-use crate::answers;
+use crate::calls::bytes_of;
 use crate::plain;
 use crate::plain::Tally;
 use cases::end;
@@ -65,7 +65,7 @@ fn of_row(order: usize, alphabet: u32, modulus: u32)
     let mut out = [0xA5u8; 8192];
     fill(alphabet, modulus, &mut row);
     let a = answers::of_build(wavelet_build::build(order, alphabet, &row, &mut out));
-    let n = answers::bytes_of(a.first);
+    let n = bytes_of(a.first);
     if n <= 8192 {
         let t = asked(order, alphabet, &row, &out[0..n]);
         line(order, alphabet, modulus, a.first, &out, t);

@@ -1,6 +1,5 @@
 // The row index: the papers' examples, its edges, and every small row. A line for each call, or for many of them. What it prints is compared with what a
 // separate model makes of the same calls.
-mod answers;
 mod calls;
 mod examples;
 mod large;

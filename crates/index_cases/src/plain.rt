@@ -1,10 +1,9 @@
 // What the row itself says, number by number, and questions that count where the index says something else.
 ghost use Prim.Native.Nat.{_≤_};
 ghost use lib.ListN.{length};
-use crate::answers;
-use cases::Answer;
-use cases::accepted;
-use cases::refused;
+use answers::Answer;
+use answers::accepted;
+use answers::refused;
 use cases::wide_number;
 use std::num::wrapping_add_u64;
 use std::num::wrapping_add_usize;
@@ -14,7 +13,7 @@ fn number_at(row: &[u32], i: usize) -> Answer {
     if i < row.len() {
         accepted(wide_number(row[i]), 0)
     } else {
-        refused(8)
+        refused(8, 0)
     }
 }
 
@@ -39,10 +38,10 @@ fn count_of(row: &[u32], n: u32, i: usize) -> usize
 
 fn counted(row: &[u32], alphabet: u32, n: u32, i: usize) -> Answer {
     if n == 0 || n > alphabet {
-        return refused(10);
+        return refused(10, 0);
     }
     if i > row.len() {
-        return refused(8);
+        return refused(8, 0);
     }
     accepted(count_of(row, n, i) as u64, 0)
 }
@@ -57,15 +56,15 @@ fn place_of(row: &[u32], n: u32, j: usize) -> Answer {
             return accepted(k as u64, 0);
         }
     }
-    refused(12)
+    refused(12, 0)
 }
 
 fn placed(row: &[u32], alphabet: u32, n: u32, j: usize) -> Answer {
     if n == 0 || n > alphabet {
-        return refused(10);
+        return refused(10, 0);
     }
     if j == 0 {
-        return refused(8);
+        return refused(8, 0);
     }
     place_of(row, n, j)
 }

@@ -1,6 +1,6 @@
 // Every row of up to four numbers from up to six: its index is built, and every question asked at every argument, the first illegal ones too.
 ghost use Prim.Native.Nat.{_≤_, _<_};
-use crate::answers;
+use crate::calls::bytes_of;
 use crate::plain;
 use crate::plain::Tally;
 use cases::bytes_checksum;
@@ -51,7 +51,7 @@ fn with_index(order: usize, alphabet: u32, row: &[u32], s: Sums) -> Sums
 {
     let mut out = [0xA5u8; 4];
     let a = answers::of_build(wavelet_build::build(order, alphabet, row, &mut out));
-    let n = answers::bytes_of(a.first);
+    let n = bytes_of(a.first);
     if a.number != 0 {
         return with_wrong(s);
     }

@@ -1,8 +1,8 @@
 // Every string of up to two bytes as the index of up to four numbers from up to six. It is refused with 11, or it is the index of the row that is
 // extracted from it.
 ghost use Prim.Native.Nat.{_≤_};
-use crate::answers;
-use cases::Answer;
+use crate::calls::bytes_of;
+use answers::Answer;
 use cases::end;
 use cases::wide_number;
 use cases::with_number;
@@ -69,7 +69,7 @@ fn differs(order: usize, alphabet: u32, len: usize, b: &[u8]) -> u64
     ];
     let mut out = [0xA5u8; 4];
     let a = answers::of_build(wavelet_build::build(order, alphabet, &row[0..len], &mut out));
-    let n = answers::bytes_of(a.first);
+    let n = bytes_of(a.first);
     if a.number == 0 && n == b.len() && begins(b, &out) {
         0
     } else {

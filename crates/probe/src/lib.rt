@@ -1,43 +1,62 @@
 // Every operation of the library for tests and benchmarks in other languages: `probe_X` calls X on the caller's own buffers. What the call answers goes to
 // the last parameter, as far as that has room: paper 01's answer number, the place, and two results, which are zeros where there are none.
-mod report;
-
 ghost use mathlib.Core.Path.{_≡_};
-ghost use lib.ListN.{length};
+ghost use lib.ListN.{length, set};
+ghost use lib.Seq.{sets};
 ghost use Rattle.decoder.specs.Reading.{read, readInto};
 ghost use Rattle.totals.specs.Totals.{total, repeatedTotal};
 ghost use Rattle.encoder.specs.Writing.{write, writeInto};
 ghost use Rattle.appender.specs.Appending.{append, appendInto};
 ghost use Rattle.table_decoder.specs.Reading.{readBytes, readBytesInto};
 ghost use Rattle.wavelet.specs.Questions.{build, buildInto, extract, rank, select};
-ghost use Rattle.probe.specs.Probe.{reportInto, single};
+ghost use Rattle.answers.specs.Answers.{single, values};
+ghost use Rattle.probe.specs.Probe.{told};
+
+// Element i becomes x; where i is past the end, nothing changes.
+fn store(list: &mut [u64], i: usize, x: u64)
+    ensures { λ r. ⌜ now (list .exit) ≡ set (now (list .entry)) i x ⌝ }
+{
+    if i < list.len() {
+        list[i] = x;
+    }
+}
+
+// The four numbers from the front of a list, as far as it has room.
+fn tell(answer: &mut [u64], a: answers::Answer)
+    ensures { λ r. ⌜ now (answer .exit) ≡ sets (now (answer .entry)) 0 (values a) ⌝ }
+{
+    store(answer, 0, a.number);
+    store(answer, 1, a.place);
+    store(answer, 2, a.first);
+    store(answer, 3, a.second);
+}
 
 #[no_mangle]
 pub extern "C" fn probe_write(order: usize, row: &[u32], out: &mut [u8], answer: &mut [u64])
-    ensures { λ r. ⌜ (now (answer .exit) ≡ reportInto (write order (now (row .entry)) (length (now (out .entry)))) (now (answer .entry))) × (now (out .exit) ≡ writeInto order (now (row .entry)) (now (out .entry))) ⌝ }
+    ensures { λ r. ⌜ (now (answer .exit) ≡ told (write order (now (row .entry)) (length (now (out .entry)))) (now (answer .entry))) × (now (out .exit) ≡ writeInto order (now (row .entry)) (now (out .entry))) ⌝ }
 {
-    report::tell(answer, report::of_write(encoder::write(order, row, out)));
+    tell(answer, answers::of_write(encoder::write(order, row, out)));
 }
 
 #[no_mangle]
 pub extern "C" fn probe_read(order: usize, s: &[u8], out: &mut [u32], answer: &mut [u64])
-    ensures { λ r. ⌜ (now (answer .exit) ≡ reportInto (single (read order (now (s .entry)) (length (now (out .entry))))) (now (answer .entry))) × (now (out .exit) ≡ readInto order (now (s .entry)) (now (out .entry))) ⌝ }
+    ensures { λ r. ⌜ (now (answer .exit) ≡ told (single (read order (now (s .entry)) (length (now (out .entry))))) (now (answer .entry))) × (now (out .exit) ≡ readInto order (now (s .entry)) (now (out .entry))) ⌝ }
 {
-    report::tell(answer, report::of_read(decoder::read(order, s, out)));
+    tell(answer, answers::of_read(decoder::read(order, s, out)));
 }
 
 #[no_mangle]
 pub extern "C" fn probe_table_read(s: &[u8], out: &mut [u32], answer: &mut [u64])
-    ensures { λ r. ⌜ (now (answer .exit) ≡ reportInto (single (read 3 (now (s .entry)) (length (now (out .entry))))) (now (answer .entry))) × (now (out .exit) ≡ readInto 3 (now (s .entry)) (now (out .entry))) ⌝ }
+    ensures { λ r. ⌜ (now (answer .exit) ≡ told (single (read 3 (now (s .entry)) (length (now (out .entry))))) (now (answer .entry))) × (now (out .exit) ≡ readInto 3 (now (s .entry)) (now (out .entry))) ⌝ }
 {
-    report::tell(answer, report::of_read(table_decoder::read(s, out)));
+    tell(answer, answers::of_read(table_decoder::read(s, out)));
 }
 
 #[no_mangle]
 pub extern "C" fn probe_table_read_bytes(s: &[u8], out: &mut [u8], answer: &mut [u64])
-    ensures { λ r. ⌜ (now (answer .exit) ≡ reportInto (single (readBytes (now (s .entry)) (length (now (out .entry))))) (now (answer .entry))) × (now (out .exit) ≡ readBytesInto (now (s .entry)) (now (out .entry))) ⌝ }
+    ensures { λ r. ⌜ (now (answer .exit) ≡ told (single (readBytes (now (s .entry)) (length (now (out .entry))))) (now (answer .entry))) × (now (out .exit) ≡ readBytesInto (now (s .entry)) (now (out .entry))) ⌝ }
 {
-    report::tell(answer, report::of_read(table_decoder::read_bytes(s, out)));
+    tell(answer, answers::of_read(table_decoder::read_bytes(s, out)));
 }
 
 #[no_mangle]
@@ -48,28 +67,28 @@ pub extern "C" fn probe_append(
     n: u32,
     answer: &mut [u64],
 )
-    ensures { λ r. ⌜ (now (answer .exit) ≡ reportInto (append order (now (buf .entry)) used n) (now (answer .entry))) × (now (buf .exit) ≡ appendInto order (now (buf .entry)) used n) ⌝ }
+    ensures { λ r. ⌜ (now (answer .exit) ≡ told (append order (now (buf .entry)) used n) (now (answer .entry))) × (now (buf .exit) ≡ appendInto order (now (buf .entry)) used n) ⌝ }
 {
-    report::tell(
+    tell(
         answer,
-        report::of_append(appender::append(order, buf, used, n)),
+        answers::of_append(appender::append(order, buf, used, n)),
     );
 }
 
 #[no_mangle]
 pub extern "C" fn probe_total(order: usize, s: &[u8], a: usize, b: usize, answer: &mut [u64])
-    ensures { λ r. ⌜ now (answer .exit) ≡ reportInto (single (total order (now (s .entry)) a b)) (now (answer .entry)) ⌝ }
+    ensures { λ r. ⌜ now (answer .exit) ≡ told (single (total order (now (s .entry)) a b)) (now (answer .entry)) ⌝ }
 {
-    report::tell(answer, report::of_total(totals::total(order, s, a, b)));
+    tell(answer, answers::of_total(totals::total(order, s, a, b)));
 }
 
 #[no_mangle]
 pub extern "C" fn probe_repeated_total(order: usize, s: &[u8], repeats: u64, answer: &mut [u64])
-    ensures { λ r. ⌜ now (answer .exit) ≡ reportInto (single (repeatedTotal order (now (s .entry)) repeats)) (now (answer .entry)) ⌝ }
+    ensures { λ r. ⌜ now (answer .exit) ≡ told (single (repeatedTotal order (now (s .entry)) repeats)) (now (answer .entry)) ⌝ }
 {
-    report::tell(
+    tell(
         answer,
-        report::of_repeated_total(totals::repeated_total(order, s, repeats)),
+        answers::of_repeated_total(totals::repeated_total(order, s, repeats)),
     );
 }
 
@@ -81,11 +100,11 @@ pub extern "C" fn probe_build(
     out: &mut [u8],
     answer: &mut [u64],
 )
-    ensures { λ r. ⌜ (now (answer .exit) ≡ reportInto (single (build order alphabet (now (row .entry)) (length (now (out .entry))))) (now (answer .entry))) × (now (out .exit) ≡ buildInto order alphabet (now (row .entry)) (now (out .entry))) ⌝ }
+    ensures { λ r. ⌜ (now (answer .exit) ≡ told (single (build order alphabet (now (row .entry)) (length (now (out .entry))))) (now (answer .entry))) × (now (out .exit) ≡ buildInto order alphabet (now (row .entry)) (now (out .entry))) ⌝ }
 {
-    report::tell(
+    tell(
         answer,
-        report::of_build(wavelet_build::build(order, alphabet, row, out)),
+        answers::of_build(wavelet_build::build(order, alphabet, row, out)),
     );
 }
 
@@ -98,11 +117,11 @@ pub extern "C" fn probe_extract(
     i: usize,
     answer: &mut [u64],
 )
-    ensures { λ r. ⌜ now (answer .exit) ≡ reportInto (extract order alphabet len (now (index .entry)) i) (now (answer .entry)) ⌝ }
+    ensures { λ r. ⌜ now (answer .exit) ≡ told (extract order alphabet len (now (index .entry)) i) (now (answer .entry)) ⌝ }
 {
-    report::tell(
+    tell(
         answer,
-        report::of_extract(wavelet_query::extract(order, alphabet, len, index, i)),
+        answers::of_extract(wavelet_query::extract(order, alphabet, len, index, i)),
     );
 }
 
@@ -116,11 +135,11 @@ pub extern "C" fn probe_rank(
     i: usize,
     answer: &mut [u64],
 )
-    ensures { λ r. ⌜ now (answer .exit) ≡ reportInto (rank order alphabet len (now (index .entry)) n i) (now (answer .entry)) ⌝ }
+    ensures { λ r. ⌜ now (answer .exit) ≡ told (rank order alphabet len (now (index .entry)) n i) (now (answer .entry)) ⌝ }
 {
-    report::tell(
+    tell(
         answer,
-        report::of_rank(wavelet_query::rank(order, alphabet, len, index, n, i)),
+        answers::of_rank(wavelet_query::rank(order, alphabet, len, index, n, i)),
     );
 }
 
@@ -134,10 +153,10 @@ pub extern "C" fn probe_select(
     j: usize,
     answer: &mut [u64],
 )
-    ensures { λ r. ⌜ now (answer .exit) ≡ reportInto (select order alphabet len (now (index .entry)) n j) (now (answer .entry)) ⌝ }
+    ensures { λ r. ⌜ now (answer .exit) ≡ told (select order alphabet len (now (index .entry)) n j) (now (answer .entry)) ⌝ }
 {
-    report::tell(
+    tell(
         answer,
-        report::of_select(wavelet_select::select(order, alphabet, len, index, n, j)),
+        answers::of_select(wavelet_select::select(order, alphabet, len, index, n, j)),
     );
 }
