@@ -1,0 +1,76 @@
+-- What is printed, check by check; and that it is not long.
+use mathlib.Core.Path.{_≡_, refl, ap, ap₂, _∙_}
+use mathlib.Core.Bool.{true, false, not}
+use mathlib.Core.List.{List, map}
+use Prim.Native.Nat.{ℕ, _-_, _/_, _≤_, _<_}
+use native.Mathlib.Omega.{arith}
+use lib.Dec.{ltb}
+use lib.ListN.{length, getD, take, drop}
+use borrow.Author.Tests.{lt-ltb, le-ltb}
+use Rattle.fibonacci.specs.Calls.{Outcome, accepted, refused, mostBytes, largest}
+use Rattle.fibonacci.proofs.Checks.{check-passed, then-passed, accepted-one}
+use Rattle.fibonacci.specs.Tables.{bounded}
+use Rattle.encoder.specs.Writing.{write}
+use Rattle.encoder.proofs.Writing.{write-is}
+use Rattle.listing_text.specs.Input.{fields, isInput}
+use Rattle.listing_text.specs.Listing.{lines, refusalLine, listingOf, mostInput, listing, printed, text, mostText, TextFits}
+use Rattle.listing_text.proofs.Input.{fields-length, input-form}
+use Rattle.listing_text.proofs.Clipping.{listing-same, order-row, bounded-below}
+use Rattle.listing_text.proofs.Printing.{lines-length, refusal-length}
+
+-- ## The listing of a row
+
+pub list-written : (m : ℕ) (row : List ℕ) (bytes bits : ℕ) → accepted (bytes, bits) ≡ write m row mostBytes → lines m row bytes ≡ printed (listingOf m row)
+unfolding listingOf
+list-written m row bytes bits e = rw (← e) refl
+
+pub list-refused : (m : ℕ) (row : List ℕ) (number place : ℕ) → refused number place ≡ write m row mostBytes → refusalLine number ≡ printed (listingOf m row)
+unfolding listingOf
+list-refused m row number place e = rw (← e) refl
+
+-- ## The text of an input
+
+module _ (s : List ℕ) where
+  pub text-long : mostInput < length s → refusalLine 4 ≡ text s
+  unfolding text listing
+  text-long h = rw (lt-ltb mostInput (length s) h) refl
+
+  pub text-other : length s ≤ mostInput → isInput s ≡ false → refusalLine 13 ≡ text s
+  unfolding text listing
+  text-other h q = rw (le-ltb mostInput (length s) h, q) refl
+
+  pub text-list : length s ≤ mostInput → isInput s ≡ true → printed (listingOf (getD (fields s) 0 0) (drop 1 (fields s))) ≡ text s
+  unfolding text listing
+  text-list h q = rw (le-ltb mostInput (length s) h, q) refl
+
+  -- the order and the row are in a list of 32-bit numbers
+  pub text-row : (numbers : List ℕ) → length s ≤ mostInput → isInput s ≡ true → take (length s / 11) numbers ≡ map bounded (fields s)
+      → (1 ≤ length s / 11) × (getD numbers 0 0 ≤ largest) × (printed (listingOf (getD numbers 0 0) (take (length s / 11 - 1) (drop 1 numbers))) ≡ text s)
+  text-row numbers h q e =
+      let some = input-form .lines-are s q .1 in
+      let count : 1 ≤ length s / 11 = omega (arith, fields-length s) in
+      let r = order-row (length s / 11) numbers (fields s) count some e in (
+        count,
+        omega (arith, r .0, bounded-below (getD (fields s) 0 0)),
+        ap printed (ap₂ listingOf (r .0) (r .1) ∙ listing-same (getD (fields s) 0 0) (drop 1 (fields s))) ∙ text-list h q,
+      )
+
+-- ## How long a text is
+
+list-fits : (m : ℕ) (row t : List ℕ) → listingOf m row ≡ accepted t → length t ≤ mostText
+unfolding listingOf
+list-fits m row t e =
+    let p = then-passed (write m row mostBytes) _ t e in
+    let w = write-is m row mostBytes (p .0 .0) (p .0 .1) (p .1) in
+    omega (arith, ap length (accepted-one (p .2)), lines-length m row (p .0 .0), w .0 .count)
+
+pub text-fits : TextFits
+unfolding text listing
+text-fits s = by (listing s) refl
+  where
+    by : (o : Outcome (List ℕ)) → listing s ≡ o → length (printed o) ≤ mostText
+    by (refused number place) e = omega (arith, refusal-length number)
+    by (accepted t) e =
+        let p4 = check-passed 4 0 (ltb mostInput (length s)) _ t e in
+        let p13 = check-passed 13 0 (not (isInput s)) _ t (p4 .1) in
+        list-fits _ _ t (p13 .1)

@@ -1,0 +1,103 @@
+-- The numbers of the input in 32 bits: one that is too large becomes 0, and both are refused alike.
+use mathlib.Core.Path.{_≡_, refl, sym, ap, ap₂, _∙_}
+use mathlib.Core.Bool.{Bool, true, false, not, _&&_}
+use mathlib.Core.List.{List, [], _∷_, map}
+use Prim.Native.Nat.{ℕ, zero, suc, _-_, _≤_}
+use native.Mathlib.Omega.{arith}
+use native.Mathlib.Decide.{decLe}
+use lib.Dec.{leb, ltb}
+use lib.ListN.{length, getD, take, drop, length-map}
+use borrow.Author.Tests.{lt-leb}
+use Rattle.fibonacci.specs.Calls.{Outcome, accepted, refused, check, andThen, within, isOrder, isNumber, Legal, largest, longest, mostBytes, checkEach}
+use Rattle.fibonacci.specs.Tables.{bounded}
+use Rattle.fibonacci.proofs.Checks.{order-is, number-is, above-number, each-accepted, each-refused}
+use Rattle.fibonacci.proofs.Lookup.{bounded-is, bounded-not}
+use Rattle.encoder.specs.Writing.{write}
+use Rattle.listing_text.specs.Listing.{lines, listingOf}
+use Rattle.listing_text.proofs.Input.{and-false}
+
+number-same : (n : ℕ) → isNumber largest (bounded n) ≡ isNumber largest n
+number-same n =
+    elim (decLe n largest) [
+      | yes h ↦ ap (isNumber largest) (bounded-is n h)
+      | no h ↦ ap (isNumber largest) (bounded-not n (omega arith)) ∙ none ∙ sym (above-number largest n (omega arith) (omega arith))
+    ]
+  where
+    none : isNumber largest 0 ≡ false
+    none = unfold isNumber in refl
+
+order-same : (m : ℕ) → isOrder (bounded m) ≡ isOrder m
+unfolding isOrder
+order-same m =
+    elim (decLe m largest) [
+      | yes h ↦ ap (within 2 6) (bounded-is m h)
+      | no h ↦ ap (within 2 6) (bounded-not m (omega arith)) ∙ sym (ap (λ (t : Bool). leb 2 m && t) (lt-leb m 6 (omega arith)) ∙ and-false (leb 2 m))
+    ]
+
+row-same : (row : List ℕ) → Legal largest row → map bounded row ≡ row
+row-same [] a = refl
+row-same (n ∷ row) a = ap₂ _∷_ (bounded-is n (number-is largest n (a .0) .1)) (row-same row (a .1))
+
+each-same : {A : Type 0} (place : ℕ) (row : List ℕ) (next : Outcome A) → checkEach 3 largest place (map bounded row) next ≡ checkEach 3 largest place row next
+unfolding checkEach
+each-same place [] next = refl
+each-same place (n ∷ row) next =
+    ap₂ (λ (t : Bool) (o : Outcome _). check 3 place (not t) o) (number-same n) (each-same (suc place) row next)
+
+-- ## The listing of a row
+
+-- a number is at fault: whatever it is, the listing is refused
+list-fault : (m : ℕ) (row : List ℕ) (k at : ℕ) → checkEach {A = ℕ} 3 largest 0 row (accepted 0) ≡ refused k at
+    → listingOf m row ≡ check 1 0 (not (isOrder m)) (check 4 0 (ltb longest (length row)) (refused k at))
+unfolding listingOf write
+list-fault m row k at e =
+    ap (λ (o : Outcome (ℕ × ℕ)). andThen (check 1 0 (not (isOrder m)) (check 4 0 (ltb longest (length row)) o)) (λ x. accepted (lines m row (x .0))))
+    (each-refused 3 largest 0 row 0 k at _ e)
+    ∙ none (not (isOrder m)) (ltb longest (length row)) _
+  where
+    none : (t u : Bool) (next : ℕ × ℕ → Outcome (List ℕ)) → andThen (check 1 0 t (check 4 0 u (refused k at))) next ≡ check 1 0 t (check 4 0 u (refused k at))
+    none true u next = refl
+    none false true next = refl
+    none false false next = refl
+
+list-row : (m : ℕ) (row : List ℕ) → listingOf m (map bounded row) ≡ listingOf m row
+list-row m row = by (checkEach {A = ℕ} 3 largest 0 row (accepted 0)) refl
+  where
+    by : (o : Outcome ℕ) → checkEach {A = ℕ} 3 largest 0 row (accepted 0) ≡ o → listingOf m (map bounded row) ≡ listingOf m row
+    by (accepted x) e = ap (listingOf m) (row-same row (each-accepted 3 largest 0 row _ x e .0))
+    by (refused k at) e =
+        list-fault m (map bounded row) k at (each-same 0 row (accepted 0) ∙ e)
+        ∙ ap (λ (n : ℕ). check 1 0 (not (isOrder m)) (check 4 0 (ltb longest n) (refused k at))) (length-map row bounded)
+        ∙ sym (list-fault m row k at e)
+
+list-order : (m : ℕ) (row : List ℕ) → isOrder m ≡ false → listingOf m row ≡ refused 1 0
+unfolding listingOf write
+list-order m row o = rw o refl
+
+pub listing-same : (m : ℕ) (row : List ℕ) → listingOf (bounded m) (map bounded row) ≡ listingOf m row
+listing-same m row = by (isOrder m) refl
+  where
+    by : (t : Bool) → isOrder m ≡ t → listingOf (bounded m) (map bounded row) ≡ listingOf m row
+    by true o = ap (λ (k : ℕ). listingOf k (map bounded row)) (bounded-is m (omega (arith, order-is m o .1))) ∙ list-row m row
+    by false o = list-order (bounded m) (map bounded row) (order-same m ∙ o) ∙ sym (list-order m row o)
+
+-- ## The order and the row in a list
+
+-- the first numbers of a list are those of the input: the first of them is the order, the others are the row
+pub order-row : (count : ℕ) (numbers ns : List ℕ) → 1 ≤ count → 1 ≤ length ns → take count numbers ≡ map bounded ns
+    → (getD numbers 0 0 ≡ bounded (getD ns 0 0)) × (take (count - 1) (drop 1 numbers) ≡ map bounded (drop 1 ns))
+order-row zero numbers ns h k e = absurd (omega arith)
+order-row (suc count) numbers [] h k e = absurd (omega arith)
+order-row (suc count) [] (n ∷ ns) h k e = absurd (omega (arith, ap length e))
+order-row (suc count) (x ∷ numbers) (n ∷ ns) h k e =
+    let one : suc count - 1 ≡ count = omega arith in (
+      ap (λ (l : List ℕ). getD l 0 0) e,
+      ap (λ (j : ℕ). take j numbers) one ∙ ap (drop 1) e,
+    )
+
+pub bounded-below : (n : ℕ) → bounded n ≤ largest
+bounded-below n =
+    elim (decLe n largest) [
+      | yes h ↦ omega (arith, bounded-is n h)
+      | no h ↦ omega (arith, bounded-not n (omega arith))
+    ]

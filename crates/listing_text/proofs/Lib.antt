@@ -1,0 +1,4 @@
+pub mod Input
+pub mod Clipping
+pub mod Printing
+pub mod Answering

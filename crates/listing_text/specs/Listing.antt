@@ -1,0 +1,78 @@
+-- The listing of a row (paper 01, "The listing"; "When a call says no": Listing program).
+use mathlib.Core.Bool.{not}
+use mathlib.Core.List.{List, [], _∷_, _++_}
+use Prim.Native.Nat.{ℕ, suc, _+_, _≤_}
+use lib.Dec.{ltb}
+use lib.ListN.{length, getD, drop}
+use Rattle.columns.specs.Columns.{ascii, column}
+use Rattle.fibonacci.specs.Code.{codeword}
+use Rattle.fibonacci.specs.Calls.{Outcome, accepted, refused, check, andThen, buffer, mostBytes}
+use Rattle.encoder.specs.Writing.{write}
+use Rattle.listing_text.specs.Input.{fields, isInput}
+
+-- ## What is printed. Each line ends in a line feed
+
+abbrev pub header : List ℕ
+header = ascii "PLACE     NUMBER BITS           TOTAL\n"
+
+-- A number's line: place in 5 columns, number in 11, codeword bits in 5, running total in 16, all right-justified
+unfoldable pub rowLine : ℕ → ℕ → ℕ → ℕ → List ℕ
+rowLine place n bits total = column 5 place ++ column 11 n ++ column 5 bits ++ column 16 total ++ ascii "\n"
+
+-- The lines of the numbers from a place on, after so large a total
+unfoldable pub rowLines : ℕ → ℕ → ℕ → List ℕ → List ℕ
+rowLines m place total [] = []
+rowLines m place total (n ∷ ns) = rowLine place n (length (codeword m n)) (total + n) ++ rowLines m (suc place) (total + n) ns
+
+-- The last line: the byte count of the encoding in 11 columns
+unfoldable pub lastLine : ℕ → List ℕ
+lastLine bytes = ascii "BYTES" ++ column 11 bytes ++ ascii "\n"
+
+-- The listing of a row whose encoding has so many bytes
+unfoldable pub lines : ℕ → List ℕ → ℕ → List ℕ
+lines m row bytes = header ++ rowLines m 0 0 row ++ lastLine bytes
+
+-- A refusal is only one line: its number in 5 columns
+unfoldable pub refusalLine : ℕ → List ℕ
+refusalLine number = ascii "NO" ++ column 5 number ++ ascii "\n"
+
+-- ## What the input gives
+
+-- The checks of writing, and the listing
+unfoldable pub listingOf : ℕ → List ℕ → Outcome (List ℕ)
+listingOf m row = andThen (write m row mostBytes) (λ x. accepted (lines m row (x .0)))
+
+-- How many bytes an input has at most: the lines of an order and of the numbers of the longest row
+abbrev pub mostInput : ℕ
+mostInput = 45067
+
+-- Listing program: 4 input above 45,067 bytes; 13 an input line of another form, or no line; then write's checks. The first number is the order, the
+-- others are the row
+unfoldable pub listing : List ℕ → Outcome (List ℕ)
+listing s =
+    check 4 0 (ltb mostInput (length s))
+    (check 13 0 (not (isInput s))
+    (listingOf (getD (fields s) 0 0) (drop 1 (fields s))))
+
+-- What is printed of a listing or a refusal
+abbrev pub printed : Outcome (List ℕ) → List ℕ
+printed (accepted t) = t
+printed (refused number place) = refusalLine number
+
+unfoldable pub text : List ℕ → List ℕ
+text s = printed (listing s)
+
+-- ## A text in a lent buffer: 5 the buffer is shorter; else how many bytes the text has
+
+unfoldable pub put : List ℕ → ℕ → Outcome ℕ
+put t room = check 5 0 (ltb room (length t)) (accepted (length t))
+
+unfoldable pub putInto : List ℕ → List ℕ → List ℕ
+putInto t before = buffer (put t (length before)) t before
+
+-- No text is longer than this: the header, a line for each number of the longest row, and the last line
+abbrev pub mostText : ℕ
+mostText = 155703
+
+abbrev pub TextFits : Type 0
+TextFits = (s : List ℕ) → length (text s) ≤ mostText
