@@ -10,6 +10,7 @@ ghost use Rattle.wavelet.specs.Answers.{treeRefusal};
 ghost use Rattle.wavelet_build.specs.Building.{buildOutcome};
 ghost use Rattle.wavelet_query.specs.Asking.{extractOutcome, rankOutcome};
 ghost use Rattle.wavelet_select.specs.Selecting.{selectOutcome};
+ghost use Rattle.listing_text.specs.Answers.{listingOutcome};
 ghost use Rattle.answers.specs.Answers.{four, single, values};
 
 pub struct Answer {
@@ -172,5 +173,14 @@ pub fn of_select(a: wavelet_select::SelectAnswer) -> Answer
         wavelet_select::SelectAnswer::Number => refused(10, 0),
         wavelet_select::SelectAnswer::Use => refused(8, 0),
         wavelet_select::SelectAnswer::Fewer => refused(12, 0),
+    }
+}
+
+pub fn of_listing(a: listing_text::ListingAnswer) -> Answer
+    ensures { λ r. ⌜ values r ≡ four (single (listingOutcome a)) ⌝ }
+{
+    match a {
+        listing_text::ListingAnswer::Text(bytes) => accepted(bytes as u64, 0),
+        listing_text::ListingAnswer::Room => refused(5, 0),
     }
 }

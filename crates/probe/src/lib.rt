@@ -9,6 +9,7 @@ ghost use Rattle.encoder.specs.Writing.{write, writeInto};
 ghost use Rattle.appender.specs.Appending.{append, appendInto};
 ghost use Rattle.table_decoder.specs.Reading.{readBytes, readBytesInto};
 ghost use Rattle.wavelet.specs.Questions.{build, buildInto, extract, rank, select};
+ghost use Rattle.listing_text.specs.Listing.{text, put, putInto};
 ghost use Rattle.answers.specs.Answers.{single, values};
 ghost use Rattle.probe.specs.Probe.{told};
 
@@ -158,5 +159,15 @@ pub extern "C" fn probe_select(
     tell(
         answer,
         answers::of_select(wavelet_select::select(order, alphabet, len, index, n, j)),
+    );
+}
+
+#[no_mangle]
+pub extern "C" fn probe_listing(input: &[u8], out: &mut [u8], answer: &mut [u64])
+    ensures { λ r. ⌜ (now (answer .exit) ≡ told (single (put (text (now (input .entry))) (length (now (out .entry))))) (now (answer .entry))) × (now (out .exit) ≡ putInto (text (now (input .entry))) (now (out .entry))) ⌝ }
+{
+    tell(
+        answer,
+        answers::of_listing(listing_text::listing(input, out)),
     );
 }

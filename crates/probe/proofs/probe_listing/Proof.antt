@@ -1,0 +1,32 @@
+use Rattle.probe.proofs.Telling.{tells-single}
+use borrow.Author.Needs.{needs}
+use Rattle.probe.proofs.probe_listing.Statement.{statement}
+use Rattle.probe.proofs.probe_listing.Tie as tie
+
+listing-requires : tie.Need-listing-requires
+listing-requires c κs = search needs
+
+of-listing-requires : tie.Need-of-listing-requires
+of-listing-requires c κs = search needs
+
+tell-requires : tie.Need-tell-requires
+tell-requires c κs = search needs
+
+same-length : tie.Need-same-length
+same-length c = search needs
+
+same-length-2 : tie.Need-same-length-2
+same-length-2 c = search needs
+
+returns : tie.Need-returns
+returns c =
+    let t = c .before .before in
+    let o = t .before in
+    let w = o .before .before .before in
+    let a = w .before .before .before .before .before .before .args in
+    (tells-single (a .answer .now) _ (o .of-listing .result) (t .tell .ensures) (o .of-listing .ensures) (w .listing .ensures .0), w .listing .ensures .1)
+
+pub probe-listing-spec : {M : Type 1} → statement M
+probe-listing-spec =
+    tie.close
+    (tie.spec listing-requires of-listing-requires tell-requires same-length same-length-2 returns)
