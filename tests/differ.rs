@@ -1,0 +1,80 @@
+//! Every operation of the library beside the model (model.rs), on many thousand inputs, legal and damaged: answers, places, results and whole buffers.
+//!
+//! The library is called through the crate `probe`. Some seeds are the same in every run; one more comes from the clock, or is the argument, and is printed.
+
+mod model;
+#[path = "differ/border.rs"]
+mod border;
+#[path = "differ/codec.rs"]
+mod codec;
+#[path = "differ/encodings.rs"]
+mod encodings;
+#[path = "differ/index.rs"]
+mod index;
+#[path = "differ/ledger.rs"]
+mod ledger;
+#[path = "differ/random.rs"]
+mod random;
+#[path = "differ/text.rs"]
+mod text;
+
+use border::Border;
+use codec::Codec;
+use index::Indexing;
+use ledger::Ledger;
+use random::Random;
+
+/// Random cases of each kind for one seed.
+const ROWS: usize = 6_000;
+const ENCODINGS: usize = 10_000;
+const INDEXES: usize = 6_000;
+
+fn round(border: &mut Border, ledger: &mut Ledger, seed: u64) {
+    ledger.begin(seed);
+    let mut random = Random::new(seed);
+    let mut codec = Codec { border, ledger, random: &mut random };
+    for _ in 0..ROWS {
+        codec.row_case();
+    }
+    for _ in 0..ENCODINGS {
+        codec.encoding_case();
+    }
+    let mut indexing = Indexing { border, ledger, random: &mut random };
+    for _ in 0..INDEXES {
+        indexing.case();
+    }
+}
+
+/// What does not depend on a seed.
+fn fixed(border: &mut Border, ledger: &mut Ledger) {
+    ledger.begin(0);
+    let mut random = Random::new(0);
+    let mut codec = Codec { border, ledger, random: &mut random };
+    codec.small_strings();
+    codec.limits();
+    let mut indexing = Indexing { border, ledger, random: &mut random };
+    indexing.small_rows();
+    indexing.limits();
+}
+
+/// The argument, or a number from the clock.
+fn last_seed() -> u64 {
+    if let Some(word) = std::env::args().nth(1) {
+        return word.parse().expect("the seed is a number of 64 bits");
+    }
+    let since = std::time::SystemTime::now().duration_since(std::time::UNIX_EPOCH).unwrap();
+    since.as_nanos() as u64
+}
+
+fn main() {
+    let seed = last_seed();
+    println!("tests/differ: the seed of this run is {seed}");
+    let (mut border, mut ledger) = (Border::new(), Ledger::new());
+    fixed(&mut border, &mut ledger);
+    for seed in [1, 2, 3, seed] {
+        round(&mut border, &mut ledger, seed);
+    }
+    if !ledger.end() {
+        std::process::exit(1);
+    }
+}

@@ -1,0 +1,222 @@
+//! The index and its three questions beside the model.
+
+use crate::border::Border;
+use crate::ledger::Ledger;
+use crate::model::{self, Answer, Index, Refusal};
+use crate::random::Random;
+use crate::text::{bytes, numbers};
+
+type Held = Result<Index, Refusal>;
+
+/// What the model answers of bytes: their refusal, or what the index that they are says.
+fn asked(held: &Held, question: impl Fn(&Index) -> Answer<(u64, u64)>) -> [u64; 4] {
+    match held {
+        Ok(index) => {
+            let a = question(index);
+            [a.number, a.place, a.results.0, a.results.1]
+        }
+        Err(refusal) => [refusal.number, refusal.place, 0, 0],
+    }
+}
+
+/// The index of a row, by the model; no bytes where there is none.
+fn index_of(order: usize, alphabet: u32, row: &[u32]) -> Vec<u8> {
+    let mut s = vec![0; 8192];
+    let bits = model::build(order as u64, alphabet as u64, row, &mut s).results as usize;
+    s.truncate((bits + 7) / 8);
+    s
+}
+
+/// Bytes asked as an index of a row of `len` numbers.
+struct Asked<'a> {
+    order: usize,
+    alphabet: u32,
+    len: usize,
+    s: &'a [u8],
+    held: Held,
+}
+
+impl<'a> Asked<'a> {
+    fn new(order: usize, alphabet: u32, len: usize, s: &'a [u8]) -> Asked<'a> {
+        let held = model::index_of(order as u64, alphabet as u64, len as u64, s);
+        Asked { order, alphabet, len, s, held }
+    }
+
+    fn told(&self, question: &str) -> String {
+        format!("{question} of (order {}, alphabet {}, len {}, index {})", self.order, self.alphabet, self.len, bytes(self.s))
+    }
+}
+
+pub struct Indexing<'a> {
+    pub border: &'a mut Border,
+    pub ledger: &'a mut Ledger,
+    pub random: &'a mut Random,
+}
+
+impl Indexing<'_> {
+    fn build(&mut self, order: usize, alphabet: u32, row: &[u32], out: &[u8]) {
+        let called = self.border.build(order, alphabet, row, out);
+        let mut output = out.to_vec();
+        let a = model::build(order as u64, alphabet as u64, row, &mut output);
+        let arguments = || format!("build(order {order}, alphabet {alphabet}, row {}, out {})", numbers(row), bytes(out));
+        self.ledger.compare("build", &a.number.to_string(), &called, [a.number, a.place, a.results, 0], &output, arguments);
+    }
+
+    fn extract(&mut self, index: &Asked, i: usize) {
+        let called = self.border.extract(index.order, index.alphabet, index.len, index.s, i);
+        let four = asked(&index.held, |index| index.extract(i as u64));
+        self.ledger.compare("extract", &four[0].to_string(), &called, four, &[], || index.told(&format!("extract(i {i})")));
+    }
+
+    fn rank(&mut self, index: &Asked, n: u32, i: usize) {
+        let called = self.border.rank(index.order, index.alphabet, index.len, index.s, n, i);
+        let four = asked(&index.held, |index| index.rank(n as u64, i as u64));
+        self.ledger.compare("rank", &four[0].to_string(), &called, four, &[], || index.told(&format!("rank(n {n}, i {i})")));
+    }
+
+    fn select(&mut self, index: &Asked, n: u32, j: usize) {
+        let called = self.border.select(index.order, index.alphabet, index.len, index.s, n, j);
+        let four = asked(&index.held, |index| index.select(n as u64, j as u64));
+        self.ledger.compare("select", &four[0].to_string(), &called, four, &[], || index.told(&format!("select(n {n}, j {j})")));
+    }
+
+    // ---- Random cases ----
+
+    fn alphabet(&mut self) -> u32 {
+        match self.random.below(12) {
+            0 => self.random.one_of(&[0, 4097, 4098, 65_536, 65_537, u32::MAX]),
+            1 => self.random.one_of(&[4095, 4096]),
+            2 => self.random.one_of(&[100, 256, 987, 1000, 2584]),
+            _ => 1 + self.random.below(40) as u32,
+        }
+    }
+
+    fn number(&mut self, alphabet: u32) -> u32 {
+        let most = alphabet.clamp(1, 4096) as usize;
+        match self.random.below(4) {
+            0 => 1 + self.random.below(most.min(3)) as u32,
+            1 => (most - self.random.below(most.min(3))) as u32,
+            _ => 1 + self.random.below(most) as u32,
+        }
+    }
+
+    fn row(&mut self, alphabet: u32) -> Vec<u32> {
+        let len = match self.random.below(40) {
+            0 => self.random.one_of(&[4095, 4096, 4097, 5000]),
+            1..=3 => self.random.below(400),
+            _ => self.random.below(14),
+        };
+        let mut row: Vec<u32> = match self.random.below(4) {
+            0 => vec![self.number(alphabet); len],
+            _ => (0..len).map(|_| self.number(alphabet)).collect(),
+        };
+        if !row.is_empty() && self.random.once_in(10) {
+            let place = self.random.below(len);
+            row[place] = self.random.one_of(&[0, alphabet.wrapping_add(1), u32::MAX]);
+        }
+        row
+    }
+
+    fn damage(&mut self, s: &mut Vec<u8>) {
+        match self.random.below(5) {
+            0 => s.truncate(s.len().saturating_sub(1)),
+            1 => s.push(self.random.one_of(&[0x00, 0x01, 0x80])),
+            2 => {
+                let len = self.random.below(20);
+                *s = self.random.bytes(len);
+            }
+            _ => {
+                if !s.is_empty() {
+                    let place = s.len() - 1 - self.random.below(s.len().min(4));
+                    s[place] ^= 1 << self.random.below(8);
+                }
+            }
+        }
+    }
+
+    /// A row's index is built, and asked, whole or damaged.
+    pub fn case(&mut self) {
+        let order = self.random.order();
+        let alphabet = self.alphabet();
+        let row = self.row(alphabet);
+        let mut s = index_of(order, alphabet, &row);
+        let room = self.random.room(s.len());
+        let out = self.random.bytes(room);
+        self.build(order, alphabet, &row, &out);
+        let mut len = row.len();
+        let (mut order, mut alphabet) = (order, alphabet);
+        if self.random.once_in(3) {
+            self.damage(&mut s);
+        }
+        // the same bytes asked as something else
+        match self.random.below(24) {
+            0 => order = self.random.order(),
+            1 => alphabet = self.alphabet(),
+            2 => len = self.random.around(len),
+            3 => len = self.random.around(4096),
+            _ => (),
+        }
+        self.questions(order, alphabet, len, &s);
+    }
+
+    fn questions(&mut self, order: usize, alphabet: u32, len: usize, s: &[u8]) {
+        let index = Asked::new(order, alphabet, len, s);
+        for _ in 0..4 {
+            let i = self.random.around(len);
+            self.extract(&index, i);
+            let n = match self.random.below(8) {
+                0 => self.random.one_of(&[0, alphabet.wrapping_add(1), u32::MAX, 4097, 65_537]),
+                _ => self.number(alphabet),
+            };
+            let i = self.random.around(len);
+            self.rank(&index, n, i);
+            // uses around the last one
+            let uses = match &index.held {
+                Ok(index) => index.row.iter().filter(|x| **x == n).count(),
+                Err(_) => 0,
+            };
+            let j = self.random.around(uses);
+            self.select(&index, n, j);
+        }
+    }
+
+    /// Every place, number and use of small rows.
+    pub fn small_rows(&mut self) {
+        for order in 2..=6 {
+            for alphabet in 1..=5 {
+                for code in 0..alphabet * alphabet * alphabet {
+                    let row = [1 + code % alphabet, 1 + code / alphabet % alphabet, 1 + code / alphabet / alphabet];
+                    self.build(order, alphabet, &row, &[0xA5; 3]);
+                    let s = index_of(order, alphabet, &row);
+                    let index = Asked::new(order, alphabet, 3, &s);
+                    for i in 0..=4 {
+                        self.extract(&index, i);
+                        for n in 0..=alphabet + 1 {
+                            self.rank(&index, n, i);
+                            self.select(&index, n, i);
+                        }
+                    }
+                }
+            }
+        }
+    }
+
+    /// The limits of order, alphabet and length, alone and together.
+    pub fn limits(&mut self) {
+        for order in [0, 1, 2, 3, 6, 7, 8, usize::MAX] {
+            for alphabet in [0, 1, 2, 4095, 4096, 4097, u32::MAX] {
+                for len in [0, 1, 4095, 4096, 4097usize] {
+                    let most = alphabet.clamp(1, 4096);
+                    let row: Vec<u32> = (0..len).map(|i| if i % 2 == 0 { most } else { 1 }).collect();
+                    let s = index_of(order, alphabet, &row);
+                    self.build(order, alphabet, &row, &vec![0xA5; s.len()]);
+                    for asked in [len, len + 1, usize::MAX] {
+                        self.questions(order, alphabet, asked, &s);
+                    }
+                    let longer = [&s[..], &[0; 8193]].concat();
+                    self.questions(order, alphabet, len, &longer);
+                }
+            }
+        }
+    }
+}

@@ -1,0 +1,106 @@
+//! What was tried, what came of it, and what is said where the library and the model differ.
+
+use std::fmt::Debug;
+use std::sync::atomic::Ordering;
+
+use crate::border::{Called, CASE, SEED};
+
+/// Each operation, with the answers that paper 01 gives it: every one has to come, and no other may.
+const OPERATIONS: [(&str, &[&str]); 11] = [
+    ("write", &["0", "1", "4", "3", "5"]),
+    ("read", &["0", "1", "2", "4", "7", "6", "5"]),
+    ("table_read", &["0", "2", "4", "7", "6", "5"]),
+    ("table_read_bytes", &["0", "2", "4", "7", "6", "5"]),
+    ("append", &["0", "1", "2", "4", "7", "6", "3", "4 (full)", "5"]),
+    ("total", &["0", "1", "2", "4", "7", "6", "8"]),
+    ("repeated_total", &["0", "1", "2", "4", "7", "6", "14"]),
+    ("build", &["0", "1", "9", "4", "10", "5"]),
+    ("extract", &["0", "1", "9", "4", "11", "8"]),
+    ("rank", &["0", "1", "9", "4", "11", "10", "8"]),
+    ("select", &["0", "1", "9", "4", "11", "10", "8", "12"]),
+];
+
+pub struct Ledger {
+    seed: u64,
+    case: u64,
+    /// For each operation, how often each of its answers came.
+    counts: Vec<Vec<u64>>,
+}
+
+/// The library and the model, side by side.
+fn fail(operation: &str, ledger: &Ledger, what: &str, arguments: &str, library: String, model: String) -> ! {
+    println!("tests/differ: FAILED: {operation}: {what}");
+    println!("  seed {}, case {}", ledger.seed, ledger.case);
+    println!("  {arguments}");
+    println!("  library: {library}");
+    println!("  model:   {model}");
+    std::process::exit(1)
+}
+
+impl Ledger {
+    pub fn new() -> Ledger {
+        let counts = OPERATIONS.iter().map(|(_, answers)| vec![0; answers.len()]).collect();
+        Ledger { seed: 0, case: 0, counts }
+    }
+
+    pub fn begin(&mut self, seed: u64) {
+        self.seed = seed;
+        self.case = 0;
+        SEED.store(seed, Ordering::Relaxed);
+    }
+
+    /// Holds what a call left to the model's four numbers and output. The arguments are told only where there is a difference.
+    pub fn compare<O: PartialEq + Debug>(
+        &mut self,
+        operation: &str,
+        answer: &str,
+        called: &Called<O>,
+        four: [u64; 4],
+        output: &[O],
+        arguments: impl Fn() -> String,
+    ) {
+        self.case += 1;
+        CASE.store(self.case, Ordering::Relaxed);
+        if let Some(fault) = called.fault {
+            fail(operation, self, fault, &arguments(), String::new(), String::new());
+        }
+        let expected = called.expected(four);
+        if called.answer != expected {
+            fail(operation, self, "another answer", &arguments(), format!("{:?}", called.answer), format!("{expected:?}"));
+        }
+        if called.output != output {
+            let place = called.output.iter().zip(output).position(|(a, b)| a != b).unwrap_or(0);
+            let what = format!("another output, first at element {place}");
+            fail(operation, self, &what, &arguments(), format!("{:?}", called.output), format!("{output:?}"));
+        }
+        let at = OPERATIONS.iter().position(|(name, _)| *name == operation).unwrap();
+        match OPERATIONS[at].1.iter().position(|one| *one == answer) {
+            Some(one) => self.counts[at][one] += 1,
+            None => fail(operation, self, "an answer that the operation does not have", &arguments(), answer.to_string(), String::new()),
+        }
+    }
+
+    /// Holds two of the library's own results to each other.
+    pub fn same<T: PartialEq + Debug>(&mut self, what: &str, one: T, other: T, arguments: impl Fn() -> String) {
+        if one != other {
+            fail(what, self, "two results differ", &arguments(), format!("{one:?}"), format!("{other:?} (the other)"));
+        }
+    }
+
+    /// A line for each operation, and whether each answer came.
+    pub fn end(&self) -> bool {
+        let mut all = true;
+        for ((operation, answers), counts) in OPERATIONS.iter().zip(&self.counts) {
+            let inputs: u64 = counts.iter().sum();
+            let each: Vec<String> = answers.iter().zip(counts).map(|(answer, count)| format!("{answer}: {count}")).collect();
+            println!("{operation:<17}{inputs:>9} inputs; {}", each.join(", "));
+            for (answer, count) in answers.iter().zip(counts) {
+                if *count == 0 {
+                    println!("tests/differ: FAILED: {operation}: the answer {answer} never came");
+                    all = false;
+                }
+            }
+        }
+        all
+    }
+}
