@@ -117,7 +117,7 @@ impl<T: Plain> Lent<T> {
 
 // ---- Touching other memory ----
 
-/// What is being tried, for a message where nothing else can be said any more: the seed and the case.
+/// The seed, and the last case that went well, for a message where nothing else can be said any more.
 pub static SEED: AtomicU64 = AtomicU64::new(0);
 pub static CASE: AtomicU64 = AtomicU64::new(0);
 
@@ -139,7 +139,7 @@ impl Write for Message {
 extern "C" fn touched(_: c_int) {
     let mut message = Message { bytes: [0; 256], len: 0 };
     let (seed, case) = (SEED.load(Ordering::Relaxed), CASE.load(Ordering::Relaxed));
-    let _ = writeln!(message, "\ntests/differ: FAILED: memory outside of the lent buffers was touched: seed {seed}, case {case}");
+    let _ = writeln!(message, "\ntests/differ: FAILED: memory outside of the lent buffers was touched: seed {seed}, after case {case}");
     unsafe {
         write(1, message.bytes.as_ptr() as *const c_void, message.len);
         _exit(1)

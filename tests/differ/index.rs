@@ -110,9 +110,11 @@ impl Indexing<'_> {
             0 => vec![self.number(alphabet); len],
             _ => (0..len).map(|_| self.number(alphabet)).collect(),
         };
-        if !row.is_empty() && self.random.once_in(10) {
-            let place = self.random.below(len);
-            row[place] = self.random.one_of(&[0, alphabet.wrapping_add(1), u32::MAX]);
+        for _ in 0..self.random.one_of(&[0, 0, 0, 0, 0, 0, 0, 0, 1, 2]) {
+            if !row.is_empty() {
+                let place = self.random.below(len);
+                row[place] = self.random.one_of(&[0, alphabet.wrapping_add(1), u32::MAX]);
+            }
         }
         row
     }
