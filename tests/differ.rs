@@ -13,6 +13,8 @@ mod encodings;
 mod index;
 #[path = "differ/ledger.rs"]
 mod ledger;
+#[path = "differ/listing.rs"]
+mod listing;
 #[path = "differ/random.rs"]
 mod random;
 #[path = "differ/text.rs"]
@@ -22,12 +24,14 @@ use border::Border;
 use codec::Codec;
 use index::Indexing;
 use ledger::Ledger;
+use listing::Listing;
 use random::Random;
 
 /// Random cases of each kind for one seed.
 const ROWS: usize = 6_000;
 const ENCODINGS: usize = 10_000;
 const INDEXES: usize = 6_000;
+const LISTINGS: usize = 6_000;
 
 fn round(border: &mut Border, ledger: &mut Ledger, seed: u64) {
     ledger.begin(seed);
@@ -43,6 +47,10 @@ fn round(border: &mut Border, ledger: &mut Ledger, seed: u64) {
     for _ in 0..INDEXES {
         indexing.case();
     }
+    let mut listing = Listing { border, ledger, random: &mut random };
+    for _ in 0..LISTINGS {
+        listing.case();
+    }
 }
 
 /// What does not depend on a seed.
@@ -55,6 +63,8 @@ fn fixed(border: &mut Border, ledger: &mut Ledger) {
     let mut indexing = Indexing { border, ledger, random: &mut random };
     indexing.small_rows();
     indexing.limits();
+    let mut listing = Listing { border, ledger, random: &mut random };
+    listing.fixed();
 }
 
 /// The argument, or a number from the clock.

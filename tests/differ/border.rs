@@ -21,6 +21,7 @@ extern "C" {
     fn probe_extract(order: usize, alphabet: u32, len: usize, index: *const u8, index_len: usize, i: usize, answer: *mut u64, answer_len: usize);
     fn probe_rank(order: usize, alphabet: u32, len: usize, index: *const u8, index_len: usize, n: u32, i: usize, answer: *mut u64, answer_len: usize);
     fn probe_select(order: usize, alphabet: u32, len: usize, index: *const u8, index_len: usize, n: u32, j: usize, answer: *mut u64, answer_len: usize);
+    fn probe_listing(input: *const u8, input_len: usize, out: *mut u8, out_len: usize, answer: *mut u64, answer_len: usize);
 }
 
 // the C library, for memory that may not be touched
@@ -249,5 +250,8 @@ impl Border {
 
     pub fn select(&mut self, order: usize, alphabet: u32, len: usize, index: &[u8], number: u32, j: usize) -> Called<u8> {
         self.call(index, &[], |s, ss, _, _, a, n| unsafe { probe_select(order, alphabet, len, s, ss, number, j, a, n) })
+    }
+    pub fn listing(&mut self, input: &[u8], out: &[u8]) -> Called<u8> {
+        self.call(input, out, |s, ss, o, os, a, n| unsafe { probe_listing(s, ss, o, os, a, n) })
     }
 }

@@ -5,8 +5,9 @@ use std::sync::atomic::Ordering;
 
 use crate::border::{Called, CASE, SEED};
 
-/// Each operation, with the answers that paper 01 gives it: every one has to come, and no other may.
-const OPERATIONS: [(&str, &[&str]); 11] = [
+/// Each operation, with the answers that paper 01 gives it: every one has to come, and no other may. Those of the listing are told by its text, and 5 by an
+/// output that the text does not fit.
+const OPERATIONS: [(&str, &[&str]); 12] = [
     ("write", &["0", "1", "4", "3", "5"]),
     ("read", &["0", "1", "2", "4", "7", "6", "5"]),
     ("table_read", &["0", "2", "4", "7", "6", "5"]),
@@ -18,6 +19,7 @@ const OPERATIONS: [(&str, &[&str]); 11] = [
     ("extract", &["0", "1", "9", "4", "11", "8"]),
     ("rank", &["0", "1", "9", "4", "11", "10", "8"]),
     ("select", &["0", "1", "9", "4", "11", "10", "8", "12"]),
+    ("listing", &["a listing", "NO 4", "NO 13", "NO 1", "NO 3", "5"]),
 ];
 
 pub struct Ledger {
