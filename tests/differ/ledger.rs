@@ -29,13 +29,14 @@ pub struct Ledger {
     counts: Vec<Vec<u64>>,
 }
 
-/// The library and the model, side by side.
-fn fail(operation: &str, ledger: &Ledger, what: &str, arguments: &str, library: String, model: String) -> ! {
+/// Says which case went wrong, with what it takes to repeat it, and ends the program.
+fn fail(operation: &str, ledger: &Ledger, what: &str, arguments: &str, sides: &[(&str, String)]) -> ! {
     println!("tests/differ: FAILED: {operation}: {what}");
-    println!("  seed {}, case {}", ledger.seed, ledger.case);
+    println!("  seed {}, case {} (tests/run-differ {} repeats it)", ledger.seed, ledger.case, ledger.seed);
     println!("  {arguments}");
-    println!("  library: {library}");
-    println!("  model:   {model}");
+    for (side, value) in sides {
+        println!("  {side}: {value}");
+    }
     std::process::exit(1)
 }
 
@@ -64,28 +65,31 @@ impl Ledger {
         self.case += 1;
         CASE.store(self.case, Ordering::Relaxed);
         if let Some(fault) = called.fault {
-            fail(operation, self, fault, &arguments(), String::new(), String::new());
+            fail(operation, self, fault, &arguments(), &[]);
         }
         let expected = called.expected(four);
         if called.answer != expected {
-            fail(operation, self, "another answer", &arguments(), format!("{:?}", called.answer), format!("{expected:?}"));
+            let sides = [("library", format!("{:?}", called.answer)), ("model", format!("{expected:?}"))];
+            fail(operation, self, "another answer", &arguments(), &sides);
         }
         if called.output != output {
             let place = called.output.iter().zip(output).position(|(a, b)| a != b).unwrap_or(0);
             let what = format!("another output, first at element {place}");
-            fail(operation, self, &what, &arguments(), format!("{:?}", called.output), format!("{output:?}"));
+            let sides = [("library", format!("{:?}", called.output)), ("model", format!("{output:?}"))];
+            fail(operation, self, &what, &arguments(), &sides);
         }
         let at = OPERATIONS.iter().position(|(name, _)| *name == operation).unwrap();
         match OPERATIONS[at].1.iter().position(|one| *one == answer) {
             Some(one) => self.counts[at][one] += 1,
-            None => fail(operation, self, "an answer that the operation does not have", &arguments(), answer.to_string(), String::new()),
+            None => fail(operation, self, &format!("{answer} is no answer of the operation"), &arguments(), &[]),
         }
     }
 
     /// Holds two of the library's own results to each other.
     pub fn same<T: PartialEq + Debug>(&mut self, what: &str, one: T, other: T, arguments: impl Fn() -> String) {
         if one != other {
-            fail(what, self, "two results differ", &arguments(), format!("{one:?}"), format!("{other:?} (the other)"));
+            let sides = [("one", format!("{one:?}")), ("other", format!("{other:?}"))];
+            fail(what, self, "not the same", &arguments(), &sides);
         }
     }
 
