@@ -1,20 +1,23 @@
 -- The lines of a listing: how long they are, and how they are put into a buffer.
 use mathlib.Core.Path.{_≡_, refl, sym, ap, subst, _∙_}
+use mathlib.Core.Bool.{Bool, true, false}
 use mathlib.Core.List.{List, [], _∷_, _++_}
 use Prim.Native.Nat.{ℕ, suc, _+_, _*_, _≤_, _<_}
 use native.Mathlib.Omega.{arith}
 use native.Mathlib.Numerals.{add-one}
 use lib.Dec.{ltb}
-use lib.ListN.{length, getD, drop, length-append, drop-of-length-le}
-use lib.Seq.{sets, sets-eq, length-sets, drop-cons}
-use borrow.Author.Tests.{lt-ltb, le-ltb}
+use lib.ListN.{length, getD, take, drop, length-append, drop-of-length-le}
+use lib.Seq.{sets, sets-eq, take-at, drop-cons}
+use borrow.Author.Tests.{lt-ltb, le-ltb, ltb-true, ltb-false}
 use Rattle.columns.specs.Columns.{column}
 use Rattle.columns.proofs.Columns.{column-length, sets-then}
 use Rattle.fibonacci.specs.Code.{codeword}
-use Rattle.fibonacci.specs.Calls.{Outcome, accepted, refused, largest}
+use Rattle.fibonacci.specs.Calls.{accepted, refused, check, largest}
+use Rattle.fibonacci.proofs.Checks.{check-passed, accepted-one, not-both}
 use Rattle.listing_text.specs.Listing.{header, rowLine, rowLines, lastLine, lines, refusalLine, put, putInto}
 use Rattle.listing_text.specs.Answers.{Puts}
 use Rattle.listing_text.specs.declared.ListingAnswer.{ListingAnswer}
+use Rattle.listing_text.specs.declared.ListingAnswer.the-variants.{Text, Room}
 
 -- ## Lengths
 
@@ -66,6 +69,24 @@ module _ (t before : List ℕ) (n : ℕ) (e : length t ≡ n) where
 -- the same text, said in another way
 pub puts-same : (t t' before : List ℕ) (answer : ListingAnswer) (after : List ℕ) → t ≡ t' → Puts t before answer after → Puts t' before answer after
 puts-same t t' before answer after e p = subst (λ (x : List ℕ). Puts x before answer after) e p
+
+-- what an answer says of the buffer
+pub puts-text : (t before : List ℕ) (n : ℕ) (after : List ℕ) → Puts t before (Text n) after → (take n after ≡ t) × (n ≤ length before)
+unfolding put putInto
+puts-text t before n after p =
+    let q = check-passed 5 0 (ltb (length before) (length t)) (accepted (length t)) n (sym (p .0)) in
+    let e : length t ≡ n = accepted-one (q .1) in
+    let h = ltb-false (length before) (length t) (q .0) in
+    let whole : after ≡ t ++ drop (length t) before = rw (q .0) at (p .1) in
+    (ap (take n) whole ∙ take-at t (drop (length t) before) n e, omega arith)
+
+pub puts-room : (t before after : List ℕ) → Puts t before Room after → length before < length t
+unfolding put
+puts-room t before after p = by (ltb (length before) (length t)) refl (p .0)
+  where
+    by : (x : Bool) → ltb (length before) (length t) ≡ x → refused 5 0 ≡ check 5 0 x (accepted (length t)) → length before < length t
+    by true e q = ltb-true (length before) (length t) e
+    by false e q = absurd (not-both q)
 
 -- ## The lines of a row
 

@@ -1,0 +1,69 @@
+// The listing program (paper 01, "The listing"): reads standard input to its end, and prints the listing or the refusal. What it prints is
+// `listing_text::listing`'s.
+ghost use mathlib.Core.Path.{_≡_};
+ghost use Prim.Native.Nat.{_≤_};
+ghost use lib.ListN.{length, take};
+ghost use Rattle.listing_text.specs.Listing.{text, mostText};
+ghost use Rattle.listing.specs.Reading.{bytesRead};
+use libc::STDERR_FILENO;
+use libc::STDIN_FILENO;
+use libc::STDOUT_FILENO;
+
+// One byte more than an input may have: who has read so many knows that there are too many.
+const MOST_READ: usize = 45068;
+
+enum Input {
+    // So many bytes, up to the end of the input or of the buffer.
+    Bytes(usize),
+    // The input cannot be read. It must not pass as one that has ended.
+    Unreadable,
+}
+
+// Reads until the input ends or the buffer is full, whatever the sizes of the reads.
+fn read(buf: &mut [u8]) -> Input
+    ensures { λ r. ⌜ bytesRead r ≤ length (now (buf .exit)) ⌝ }
+{
+    let mut n: usize = 0;
+    while n < buf.len() {
+        let got = libc::read(STDIN_FILENO, &mut buf[n..]);
+        if got < 0 {
+            return Input::Unreadable;
+        }
+        let more = io::count(got, &buf[n..]);
+        if more == 0 {
+            return Input::Bytes(n);
+        }
+        n += more;
+    }
+    Input::Bytes(n)
+}
+
+// The text for an input, in a buffer that has room for every one.
+fn print(input: &[u8], out: &mut [u8; listing_text::MOST_TEXT]) -> usize
+    requires { ⌜ length (now out) ≡ mostText ⌝ }
+    ensures { λ r. ⌜ (take r (now (out .exit)) ≡ text (now (input .entry))) × (r ≤ mostText) × (length (now (out .exit)) ≡ mostText) ⌝ }
+{
+    match listing_text::listing(input, out) {
+        listing_text::ListingAnswer::Text(n) => n,
+        listing_text::ListingAnswer::Room => 0,
+    }
+}
+
+fn complain(message: &[u8]) {
+    io::write_all(STDERR_FILENO, message);
+}
+
+fn main() {
+    let mut buf = [0u8; MOST_READ];
+    let input = read(&mut buf);
+    match input {
+        Input::Unreadable => complain(b"listing: the input cannot be read\n"),
+        Input::Bytes(n) => {
+            let mut out = [0u8; listing_text::MOST_TEXT];
+            let size = print(&buf[..n], &mut out);
+            if !io::write_all(STDOUT_FILENO, &out[..size]) {
+                complain(b"listing: the output cannot be written\n");
+            }
+        }
+    }
+}
