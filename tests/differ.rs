@@ -70,7 +70,10 @@ fn fixed(border: &mut Border, ledger: &mut Ledger) {
 /// The argument, or a number from the clock.
 fn last_seed() -> u64 {
     if let Some(word) = std::env::args().nth(1) {
-        return word.parse().expect("the seed is a number of 64 bits");
+        return word.parse().unwrap_or_else(|_| {
+            println!("tests/differ: {word} is no seed: a number of 64 bits is");
+            std::process::exit(2)
+        });
     }
     let since = std::time::SystemTime::now().duration_since(std::time::UNIX_EPOCH).unwrap();
     since.as_nanos() as u64

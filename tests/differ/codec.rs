@@ -246,6 +246,10 @@ impl Codec<'_> {
         for len in [most - 1, most, most + 1, 70_000] {
             for byte in [0x00, 0xFF, 0x24] {
                 strings.push(vec![byte; len]);
+                // a codeword as long as an encoding can be
+                let mut ended = vec![byte; len];
+                ended[len - 1] = 0x7F;
+                strings.push(ended);
             }
         }
         for s in strings {
