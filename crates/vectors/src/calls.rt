@@ -1,0 +1,196 @@
+// The calls. Each prints its answer and what the buffer that it may write holds after it. A fresh buffer is filled with bytes A5, or numbers 7777777, so
+// that what a call leaves alone shows. The arguments are those of the script, in its order.
+ghost use Prim.Native.Nat.{_≤_, _<_};
+ghost use mathlib.Core.Path.{_≡_};
+ghost use lib.ListN.{length};
+use cases::print;
+use cases::print_two;
+use cases::text;
+use cases::wide_number;
+use cases::with_bytes;
+use cases::with_number;
+use cases::with_row;
+
+// The most that a request may ask for.
+const MOST_BYTES: usize = 24080;
+
+const MOST_NUMBERS: usize = 4100;
+
+pub fn malformed() {
+    text(b" -> malformed");
+}
+
+fn size(n: u32) -> usize
+    ensures { λ r. ⌜ r ≡ n ⌝ }
+{
+    n as usize
+}
+
+fn print_bits(s: &[u8], count: usize) {
+    for k in 0..count {
+        if bits::bit(s, k) {
+            text(b"1");
+        } else {
+            text(b"0");
+        }
+    }
+}
+
+// The bits of a row of one number.
+fn codeword(order: u32, n: u32) {
+    let mut out = [0u8; 8];
+    let a = answers::of_write(encoder::write(size(order), &[n], &mut out));
+    if a.number == 0 {
+        text(b" ");
+        print_bits(&out, a.second as usize);
+    } else {
+        with_number(b" answer ", a.number);
+    }
+}
+
+pub fn codewords(order: u32, row: &[u32]) {
+    text(b" ->");
+    for i in 0..row.len() {
+        codeword(order, row[i]);
+    }
+}
+
+fn write_in(order: usize, row: &[u32], out: &mut [u8]) {
+    let a = answers::of_write(encoder::write(order, row, out));
+    print_two(a, b", bytes ", b", bits ");
+    with_bytes(b"; output", out);
+}
+
+pub fn write(a: &[u32; 5], row: &[u32]) {
+    let room = size(a[1]);
+    let mut out = [0xA5u8; MOST_BYTES];
+    if room <= MOST_BYTES {
+        write_in(size(a[0]), row, &mut out[0..room]);
+    } else {
+        malformed();
+    }
+}
+
+// Up to 64 bits of the bitmaps are printed as bits too.
+fn build_in(order: usize, alphabet: u32, row: &[u32], out: &mut [u8]) {
+    let a = answers::of_build(wavelet_build::build(order, alphabet, row, out));
+    print(a, b", bits ");
+    with_bytes(b"; output", out);
+    if 0 < a.first && a.first <= 64 {
+        text(b"; bitmaps ");
+        print_bits(out, a.first as usize);
+    }
+}
+
+pub fn build(a: &[u32; 5], row: &[u32]) {
+    let room = size(a[2]);
+    let mut out = [0xA5u8; MOST_BYTES];
+    if room <= MOST_BYTES {
+        build_in(size(a[0]), a[1], row, &mut out[0..room]);
+    } else {
+        malformed();
+    }
+}
+
+fn read_in(order: usize, s: &[u8], out: &mut [u32]) {
+    print(answers::of_read(decoder::read(order, s, out)), b", count ");
+    with_row(b"; output", out);
+}
+
+pub fn read(a: &[u32; 5], s: &[u8]) {
+    let room = size(a[1]);
+    let mut out = [7777777u32; MOST_NUMBERS];
+    if room <= MOST_NUMBERS {
+        read_in(size(a[0]), s, &mut out[0..room]);
+    } else {
+        malformed();
+    }
+}
+
+fn read_by_table_in(s: &[u8], out: &mut [u32]) {
+    print(answers::of_read(table_decoder::read(s, out)), b", count ");
+    with_row(b"; output", out);
+}
+
+pub fn read_by_table(a: &[u32; 5], s: &[u8]) {
+    let room = size(a[0]);
+    let mut out = [7777777u32; MOST_NUMBERS];
+    if room <= MOST_NUMBERS {
+        read_by_table_in(s, &mut out[0..room]);
+    } else {
+        malformed();
+    }
+}
+
+fn read_bytes_in(s: &[u8], out: &mut [u8]) {
+    print(
+        answers::of_read(table_decoder::read_bytes(s, out)),
+        b", count ",
+    );
+    with_bytes(b"; output", out);
+}
+
+pub fn read_bytes(a: &[u32; 5], s: &[u8]) {
+    let room = size(a[0]);
+    let mut out = [0xA5u8; MOST_BYTES];
+    if room <= MOST_BYTES {
+        read_bytes_in(s, &mut out[0..room]);
+    } else {
+        malformed();
+    }
+}
+
+// The buffer is the bytes of the request.
+pub fn append(a: &[u32; 5], buf: &mut [u8]) {
+    print_two(
+        answers::of_append(appender::append(size(a[0]), buf, size(a[1]), a[2])),
+        b", in use ",
+        b", count ",
+    );
+    with_bytes(b"; buffer", buf);
+}
+
+pub fn total(a: &[u32; 5], s: &[u8]) {
+    print(
+        answers::of_total(totals::total(size(a[0]), s, size(a[1]), size(a[2]))),
+        b", total ",
+    );
+}
+
+pub fn repeated_total(a: &[u32; 5], s: &[u8]) {
+    print(
+        answers::of_repeated_total(totals::repeated_total(size(a[0]), s, wide_number(a[1]))),
+        b", total ",
+    );
+}
+
+pub fn extract(a: &[u32; 5], s: &[u8]) {
+    print_two(
+        answers::of_extract(wavelet_query::extract(size(a[0]), a[1], size(a[2]), s, size(a[3]))),
+        b", number ",
+        b", visits ",
+    );
+}
+
+pub fn rank(a: &[u32; 5], s: &[u8]) {
+    print_two(
+        answers::of_rank(wavelet_query::rank(size(a[0]), a[1], size(a[2]), s, a[3], size(a[4]))),
+        b", count ",
+        b", visits ",
+    );
+}
+
+pub fn select(a: &[u32; 5], s: &[u8]) {
+    print_two(
+        answers::of_select(wavelet_select::select(
+            size(a[0]),
+            a[1],
+            size(a[2]),
+            s,
+            a[3],
+            size(a[4]),
+        )),
+        b", found at ",
+        b", visits ",
+    );
+}

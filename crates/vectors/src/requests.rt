@@ -1,0 +1,173 @@
+// A request: its name, then decimal numbers, then a row or bytes. The script says which.
+ghost use Prim.Native.Nat.{_≤_};
+ghost use lib.ListN.{length};
+use crate::calls;
+use crate::table;
+use crate::words;
+use calls::malformed;
+use check::same;
+use words::Found;
+
+enum Request {
+    Codewords,
+    Write,
+    Build,
+    Read,
+    ReadByTable,
+    ReadBytes,
+    Append,
+    Total,
+    RepeatedTotal,
+    Extract,
+    Rank,
+    Select,
+    TableRow,
+    Moved,
+    Unknown,
+}
+
+fn of_index(name: &[u8]) -> Request {
+    if same(name, b"build") {
+        return Request::Build;
+    }
+    if same(name, b"extract") {
+        return Request::Extract;
+    }
+    if same(name, b"rank") {
+        return Request::Rank;
+    }
+    if same(name, b"select") {
+        return Request::Select;
+    }
+    Request::Unknown
+}
+
+fn of_readers(name: &[u8]) -> Request {
+    if same(name, b"read") {
+        return Request::Read;
+    }
+    if same(name, b"read-by-table") {
+        return Request::ReadByTable;
+    }
+    if same(name, b"read-bytes") {
+        return Request::ReadBytes;
+    }
+    if same(name, b"table-row") {
+        return Request::TableRow;
+    }
+    if same(name, b"moved") {
+        return Request::Moved;
+    }
+    of_index(name)
+}
+
+fn named(name: &[u8]) -> Request {
+    if same(name, b"codewords") {
+        return Request::Codewords;
+    }
+    if same(name, b"write") {
+        return Request::Write;
+    }
+    if same(name, b"append") {
+        return Request::Append;
+    }
+    if same(name, b"total") {
+        return Request::Total;
+    }
+    if same(name, b"repeated-total") {
+        return Request::RepeatedTotal;
+    }
+    of_readers(name)
+}
+
+// How many decimal numbers a request has.
+fn numbers_of(r: Request) -> usize
+    ensures { λ n. ⌜ n ≤ 5 ⌝ }
+{
+    match r {
+        Request::Codewords => 1,
+        Request::Write => 2,
+        Request::Build => 3,
+        Request::Read => 2,
+        Request::ReadByTable => 1,
+        Request::ReadBytes => 1,
+        Request::Append => 3,
+        Request::Total => 3,
+        Request::RepeatedTotal => 2,
+        Request::Extract => 4,
+        Request::Rank => 5,
+        Request::Select => 5,
+        Request::TableRow => 1,
+        Request::Moved => 2,
+        Request::Unknown => 0,
+    }
+}
+
+fn has_bytes(r: Request) -> bool {
+    match r {
+        Request::Codewords => false,
+        Request::Write => false,
+        Request::Build => false,
+        Request::Unknown => false,
+        _ => true,
+    }
+}
+
+fn with_row(r: Request, a: &[u32; 5], row: &[u32]) {
+    match r {
+        Request::Codewords => calls::codewords(a[0], row),
+        Request::Write => calls::write(a, row),
+        Request::Build => calls::build(a, row),
+        _ => malformed(),
+    }
+}
+
+fn with_bytes(r: Request, a: &[u32; 5], s: &mut [u8]) {
+    match r {
+        Request::Read => calls::read(a, s),
+        Request::ReadByTable => calls::read_by_table(a, s),
+        Request::ReadBytes => calls::read_bytes(a, s),
+        Request::Append => calls::append(a, s),
+        Request::Total => calls::total(a, s),
+        Request::RepeatedTotal => calls::repeated_total(a, s),
+        Request::Extract => calls::extract(a, s),
+        Request::Rank => calls::rank(a, s),
+        Request::Select => calls::select(a, s),
+        Request::TableRow => table::row(a, s),
+        Request::Moved => table::moved(a, s),
+        _ => malformed(),
+    }
+}
+
+fn of_bytes(r: Request, a: &[u32; 5], s: &[u32])
+    requires { ⌜ length (now s) ≤ 24080 ⌝ }
+{
+    let mut b = [0u8; 24080];
+    words::narrowed(s, &mut b);
+    with_bytes(r, a, &mut b[0..s.len()]);
+}
+
+pub fn serve(line: &[u8]) {
+    let at = words::find(line, 0, b' ');
+    let r = named(&line[0..at]);
+    let mut a = [0u32; 5];
+    let n = numbers_of(r);
+    let Found::Count(at) = words::arguments(line, at, &mut a[0..n]) else {
+        malformed();
+        return;
+    };
+    let mut s = [0u32; 24080];
+    let hexadecimal = has_bytes(r);
+    let Found::Count(n) = words::elements(hexadecimal, line, at, &mut s) else {
+        malformed();
+        return;
+    };
+    if n > 24080 {
+        return;
+    }
+    if hexadecimal {
+        of_bytes(r, &a, &s[0..n]);
+    } else {
+        with_row(r, &a, &s[0..n]);
+    }
+}
