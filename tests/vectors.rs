@@ -218,10 +218,25 @@ fn answered(name: &str, w: &mut Words) -> String {
     }
 }
 
+/// What follows `listing`: how often, a space, and the text. A short listing is printed as it stands.
+fn listing(request: &str) -> String {
+    let (times, text) = request.split_once(' ').unwrap();
+    let text = text.replace('$', "\n").replace('^', "\r").replace('~', "\t");
+    let listing = model::listing(text.repeat(times.parse().unwrap()).as_bytes());
+    if listing.len() <= 1000 {
+        format!(" ->\n{}", String::from_utf8(listing).unwrap())
+    } else {
+        format!(" ->{}", bytes(&listing))
+    }
+}
+
 /// A line of the script with what the program prints after it.
 fn printed(line: &str) -> String {
     if line.is_empty() || line.starts_with('#') {
         return line.to_string();
+    }
+    if let Some(request) = line.strip_prefix("listing ") {
+        return format!("{line}{}", listing(request));
     }
     let mut words: Vec<&str> = line.split(' ').collect();
     let name = words.remove(0);
@@ -750,6 +765,40 @@ const READ_AS: [(&str, &str); 49] = [
     ("table-row 2 F7", "inside 1 2;"),
 ];
 
+// Paper 01's listing
+const LISTING: &str = " ->
+PLACE     NUMBER BITS           TOTAL
+    0          3    4               3
+    1          1    2               4
+    2          4    4               8
+    3          2    3              10
+    4          1    2              11
+BYTES          2
+;";
+
+/// Lines of the listing's input, each a number right-justified in 10 columns.
+fn input(numbers: &[u64]) -> String {
+    numbers.iter().map(|n| format!("{n:>10}$")).collect()
+}
+
+fn listings(s: &mut Sources) {
+    let once = |text: &str| format!("listing 1 {text}");
+    s.says(&once(&input(&[2, 3, 1, 4, 2, 1])), LISTING);
+    s.says(&once(&input(&[6])), " ->\nPLACE     NUMBER BITS           TOTAL\nBYTES          0\n;");
+    s.says("listing 45068 x", " ->\nNO    4\n;");
+    for text in ["$", "        02$", "         2^$", "        +2$", "        2 $", "          $", "12345678901$", "00000000 2$"] {
+        s.says(&once(text), " ->\nNO   13\n;");
+    }
+    s.says("listing 0 $", " ->\nNO   13\n;");
+    s.says(&once(&(input(&[7]) + "         x$")), " ->\nNO   13\n;");
+    for numbers in [&[0][..], &[9999999999], &[4294967298, 1], &[7, 0]] {
+        s.says(&once(&input(numbers)), " ->\nNO    1\n;");
+    }
+    for number in [4294967296, 9999999999] {
+        s.says(&once(&input(&[2, number])), " ->\nNO    3\n;");
+    }
+}
+
 fn papers(s: &mut Sources) {
     for (request, part) in PAPER_01.iter().chain(&READ_AS) {
         s.says(request, part);
@@ -776,6 +825,7 @@ fn main() {
     compressors(&mut s);
     trees(&mut s);
     papers(&mut s);
+    listings(&mut s);
     for e in &ERRATA {
         assert!(s.met.contains(e.place), "nothing was compared at: {}", e.place);
     }

@@ -1,7 +1,8 @@
-// A request: its name, then decimal numbers, then a row or bytes. The script says which.
+// A request: its name, then decimal numbers, then a row, bytes or a text. The script says which.
 ghost use Prim.Native.Nat.{_≤_};
 ghost use lib.ListN.{length};
 use crate::calls;
+use crate::listings;
 use crate::table;
 use crate::words;
 use calls::malformed;
@@ -23,6 +24,7 @@ enum Request {
     Select,
     TableRow,
     Moved,
+    Listing,
     Unknown,
 }
 
@@ -38,6 +40,9 @@ fn of_index(name: &[u8]) -> Request {
     }
     if same(name, b"select") {
         return Request::Select;
+    }
+    if same(name, b"listing") {
+        return Request::Listing;
     }
     Request::Unknown
 }
@@ -99,6 +104,7 @@ fn numbers_of(r: Request) -> usize
         Request::Select => 5,
         Request::TableRow => 1,
         Request::Moved => 2,
+        Request::Listing => 1,
         Request::Unknown => 0,
     }
 }
@@ -147,15 +153,8 @@ fn of_bytes(r: Request, a: &[u32; 5], s: &[u32])
     with_bytes(r, a, &mut b[0..s.len()]);
 }
 
-pub fn serve(line: &[u8]) {
-    let at = words::find(line, 0, b' ');
-    let r = named(&line[0..at]);
-    let mut a = [0u32; 5];
-    let n = numbers_of(r);
-    let Found::Count(at) = words::arguments(line, at, &mut a[0..n]) else {
-        malformed();
-        return;
-    };
+// The row or the bytes from a place on.
+fn on_elements(r: Request, a: &[u32; 5], line: &[u8], at: usize) {
     let mut s = [0u32; 24080];
     let hexadecimal = has_bytes(r);
     let Found::Count(n) = words::elements(hexadecimal, line, at, &mut s) else {
@@ -166,8 +165,32 @@ pub fn serve(line: &[u8]) {
         return;
     }
     if hexadecimal {
-        of_bytes(r, &a, &s[0..n]);
+        of_bytes(r, a, &s[0..n]);
     } else {
-        with_row(r, &a, &s[0..n]);
+        with_row(r, a, &s[0..n]);
+    }
+}
+
+// The text from a place on, after a space.
+fn on_text(times: u32, line: &[u8], at: usize) {
+    if at < line.len() {
+        listings::listing(times, &line[at + 1..]);
+    } else {
+        malformed();
+    }
+}
+
+pub fn serve(line: &[u8]) {
+    let at = words::find(line, 0, b' ');
+    let r = named(&line[0..at]);
+    let mut a = [0u32; 5];
+    let n = numbers_of(r);
+    let Found::Count(at) = words::arguments(line, at, &mut a[0..n]) else {
+        malformed();
+        return;
+    };
+    match r {
+        Request::Listing => on_text(a[0], line, at),
+        _ => on_elements(r, &a, line, at),
     }
 }
