@@ -1,8 +1,6 @@
 // The calls. Each prints its answer and what the buffer that it may write holds after it. A fresh buffer is filled with bytes A5, or numbers 7777777, so
-// that what a call leaves alone shows. The arguments are those of the script, in its order.
-ghost use Prim.Native.Nat.{_≤_, _<_};
+// that what a call leaves alone shows.
 ghost use mathlib.Core.Path.{_≡_};
-ghost use lib.ListN.{length};
 use cases::print;
 use cases::print_two;
 use cases::text;
@@ -10,6 +8,15 @@ use cases::wide_number;
 use cases::with_bytes;
 use cases::with_number;
 use cases::with_row;
+
+// The numbers of a request; those that it has not are 0.
+pub struct Numbers {
+    pub first: u32,
+    pub second: u32,
+    pub third: u32,
+    pub fourth: u32,
+    pub fifth: u32,
+}
 
 // The most that a request may ask for.
 const MOST_BYTES: usize = 24080;
@@ -37,9 +44,9 @@ fn print_bits(s: &[u8], count: usize) {
 }
 
 // The bits of a row of one number.
-fn codeword(order: u32, n: u32) {
+fn codeword(order: u32, number: u32) {
     let mut out = [0u8; 8];
-    let a = answers::of_write(encoder::write(size(order), &[n], &mut out));
+    let a = answers::of_write(encoder::write(size(order), &[number], &mut out));
     if a.number == 0 {
         text(b" ");
         print_bits(&out, a.second as usize);
@@ -61,11 +68,11 @@ fn write_in(order: usize, row: &[u32], out: &mut [u8]) {
     with_bytes(b"; output", out);
 }
 
-pub fn write(a: &[u32; 5], row: &[u32]) {
-    let room = size(a[1]);
+pub fn write(n: Numbers, row: &[u32]) {
+    let room = size(n.second);
     let mut out = [0xA5u8; MOST_BYTES];
     if room <= MOST_BYTES {
-        write_in(size(a[0]), row, &mut out[0..room]);
+        write_in(size(n.first), row, &mut out[0..room]);
     } else {
         malformed();
     }
@@ -82,11 +89,11 @@ fn build_in(order: usize, alphabet: u32, row: &[u32], out: &mut [u8]) {
     }
 }
 
-pub fn build(a: &[u32; 5], row: &[u32]) {
-    let room = size(a[2]);
+pub fn build(n: Numbers, row: &[u32]) {
+    let room = size(n.third);
     let mut out = [0xA5u8; MOST_BYTES];
     if room <= MOST_BYTES {
-        build_in(size(a[0]), a[1], row, &mut out[0..room]);
+        build_in(size(n.first), n.second, row, &mut out[0..room]);
     } else {
         malformed();
     }
@@ -97,11 +104,11 @@ fn read_in(order: usize, s: &[u8], out: &mut [u32]) {
     with_row(b"; output", out);
 }
 
-pub fn read(a: &[u32; 5], s: &[u8]) {
-    let room = size(a[1]);
+pub fn read(n: Numbers, s: &[u8]) {
+    let room = size(n.second);
     let mut out = [7777777u32; MOST_NUMBERS];
     if room <= MOST_NUMBERS {
-        read_in(size(a[0]), s, &mut out[0..room]);
+        read_in(size(n.first), s, &mut out[0..room]);
     } else {
         malformed();
     }
@@ -112,8 +119,8 @@ fn read_by_table_in(s: &[u8], out: &mut [u32]) {
     with_row(b"; output", out);
 }
 
-pub fn read_by_table(a: &[u32; 5], s: &[u8]) {
-    let room = size(a[0]);
+pub fn read_by_table(n: Numbers, s: &[u8]) {
+    let room = size(n.first);
     let mut out = [7777777u32; MOST_NUMBERS];
     if room <= MOST_NUMBERS {
         read_by_table_in(s, &mut out[0..room]);
@@ -130,8 +137,8 @@ fn read_bytes_in(s: &[u8], out: &mut [u8]) {
     with_bytes(b"; output", out);
 }
 
-pub fn read_bytes(a: &[u32; 5], s: &[u8]) {
-    let room = size(a[0]);
+pub fn read_bytes(n: Numbers, s: &[u8]) {
+    let room = size(n.first);
     let mut out = [0xA5u8; MOST_BYTES];
     if room <= MOST_BYTES {
         read_bytes_in(s, &mut out[0..room]);
@@ -141,54 +148,67 @@ pub fn read_bytes(a: &[u32; 5], s: &[u8]) {
 }
 
 // The buffer is the bytes of the request.
-pub fn append(a: &[u32; 5], buf: &mut [u8]) {
+pub fn append(n: Numbers, buf: &mut [u8]) {
     print_two(
-        answers::of_append(appender::append(size(a[0]), buf, size(a[1]), a[2])),
+        answers::of_append(appender::append(size(n.first), buf, size(n.second), n.third)),
         b", in use ",
         b", count ",
     );
     with_bytes(b"; buffer", buf);
 }
 
-pub fn total(a: &[u32; 5], s: &[u8]) {
+pub fn total(n: Numbers, s: &[u8]) {
     print(
-        answers::of_total(totals::total(size(a[0]), s, size(a[1]), size(a[2]))),
+        answers::of_total(totals::total(size(n.first), s, size(n.second), size(n.third))),
         b", total ",
     );
 }
 
-pub fn repeated_total(a: &[u32; 5], s: &[u8]) {
+pub fn repeated_total(n: Numbers, s: &[u8]) {
     print(
-        answers::of_repeated_total(totals::repeated_total(size(a[0]), s, wide_number(a[1]))),
+        answers::of_repeated_total(totals::repeated_total(size(n.first), s, wide_number(n.second))),
         b", total ",
     );
 }
 
-pub fn extract(a: &[u32; 5], s: &[u8]) {
+pub fn extract(n: Numbers, s: &[u8]) {
     print_two(
-        answers::of_extract(wavelet_query::extract(size(a[0]), a[1], size(a[2]), s, size(a[3]))),
+        answers::of_extract(wavelet_query::extract(
+            size(n.first),
+            n.second,
+            size(n.third),
+            s,
+            size(n.fourth),
+        )),
         b", number ",
         b", visits ",
     );
 }
 
-pub fn rank(a: &[u32; 5], s: &[u8]) {
+pub fn rank(n: Numbers, s: &[u8]) {
     print_two(
-        answers::of_rank(wavelet_query::rank(size(a[0]), a[1], size(a[2]), s, a[3], size(a[4]))),
+        answers::of_rank(wavelet_query::rank(
+            size(n.first),
+            n.second,
+            size(n.third),
+            s,
+            n.fourth,
+            size(n.fifth),
+        )),
         b", count ",
         b", visits ",
     );
 }
 
-pub fn select(a: &[u32; 5], s: &[u8]) {
+pub fn select(n: Numbers, s: &[u8]) {
     print_two(
         answers::of_select(wavelet_select::select(
-            size(a[0]),
-            a[1],
-            size(a[2]),
+            size(n.first),
+            n.second,
+            size(n.third),
             s,
-            a[3],
-            size(a[4]),
+            n.fourth,
+            size(n.fifth),
         )),
         b", found at ",
         b", visits ",

@@ -1,7 +1,4 @@
 // The listing of a text that the script has so many times. In it `$` stands for a line feed, `^` for a carriage return and `~` for a tab.
-ghost use Prim.Native.Nat.{_≤_};
-ghost use mathlib.Core.Path.{_≡_};
-ghost use lib.ListN.{length};
 use cases::text;
 use cases::with_bytes;
 use listing_text::ListingAnswer;
@@ -10,6 +7,7 @@ use listing_text::MOST_TEXT;
 // More than an input may have.
 const MOST_INPUT: usize = 45100;
 
+// The byte that a character of the script stands for.
 fn meant(b: u8) -> u8 {
     match b {
         b'$' => b'\n',

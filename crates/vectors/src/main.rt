@@ -1,8 +1,5 @@
 // The examples of the papers and of their sources. The script is standard input: a line is a request, which is printed with its answer, or a comment, which
 // begins with `#` and is printed as it stands, as an empty line is. What it prints is compared with what a separate model makes of the same script.
-ghost use Prim.Native.Nat.{_≤_};
-ghost use lib.ListN.{length};
-
 mod calls;
 mod listings;
 mod requests;

@@ -5,10 +5,12 @@ use crate::calls;
 use crate::listings;
 use crate::table;
 use crate::words;
+use calls::Numbers;
 use calls::malformed;
 use check::same;
 use words::Found;
 
+// What a name asks for.
 enum Request {
     Codewords,
     Write,
@@ -28,7 +30,7 @@ enum Request {
     Unknown,
 }
 
-fn of_index(name: &[u8]) -> Request {
+fn named_question(name: &[u8]) -> Request {
     if same(name, b"build") {
         return Request::Build;
     }
@@ -47,7 +49,7 @@ fn of_index(name: &[u8]) -> Request {
     Request::Unknown
 }
 
-fn of_readers(name: &[u8]) -> Request {
+fn named_reader(name: &[u8]) -> Request {
     if same(name, b"read") {
         return Request::Read;
     }
@@ -63,7 +65,7 @@ fn of_readers(name: &[u8]) -> Request {
     if same(name, b"moved") {
         return Request::Moved;
     }
-    of_index(name)
+    named_question(name)
 }
 
 fn named(name: &[u8]) -> Request {
@@ -82,7 +84,7 @@ fn named(name: &[u8]) -> Request {
     if same(name, b"repeated-total") {
         return Request::RepeatedTotal;
     }
-    of_readers(name)
+    named_reader(name)
 }
 
 // How many decimal numbers a request has.
@@ -109,6 +111,7 @@ fn numbers_of(r: Request) -> usize
     }
 }
 
+// Whether bytes follow, and not a row.
 fn has_bytes(r: Request) -> bool {
     match r {
         Request::Codewords => false,
@@ -119,55 +122,58 @@ fn has_bytes(r: Request) -> bool {
     }
 }
 
-fn with_row(r: Request, a: &[u32; 5], row: &[u32]) {
+fn with_row(r: Request, n: Numbers, row: &[u32]) {
     match r {
-        Request::Codewords => calls::codewords(a[0], row),
-        Request::Write => calls::write(a, row),
-        Request::Build => calls::build(a, row),
+        Request::Codewords => calls::codewords(n.first, row),
+        Request::Write => calls::write(n, row),
+        Request::Build => calls::build(n, row),
         _ => malformed(),
     }
 }
 
-fn with_bytes(r: Request, a: &[u32; 5], s: &mut [u8]) {
+fn with_bytes(r: Request, n: Numbers, s: &[u8]) {
     match r {
-        Request::Read => calls::read(a, s),
-        Request::ReadByTable => calls::read_by_table(a, s),
-        Request::ReadBytes => calls::read_bytes(a, s),
-        Request::Append => calls::append(a, s),
-        Request::Total => calls::total(a, s),
-        Request::RepeatedTotal => calls::repeated_total(a, s),
-        Request::Extract => calls::extract(a, s),
-        Request::Rank => calls::rank(a, s),
-        Request::Select => calls::select(a, s),
-        Request::TableRow => table::row(a, s),
-        Request::Moved => table::moved(a, s),
+        Request::Read => calls::read(n, s),
+        Request::ReadByTable => calls::read_by_table(n, s),
+        Request::ReadBytes => calls::read_bytes(n, s),
+        Request::Total => calls::total(n, s),
+        Request::RepeatedTotal => calls::repeated_total(n, s),
+        Request::Extract => calls::extract(n, s),
+        Request::Rank => calls::rank(n, s),
+        Request::Select => calls::select(n, s),
+        Request::TableRow => table::row(n, s),
+        Request::Moved => table::moved(n, s),
         _ => malformed(),
     }
 }
 
-fn of_bytes(r: Request, a: &[u32; 5], s: &[u32])
+// Appending writes to the bytes, and the others only read them. `on_elements` has at most so many.
+fn on_bytes(r: Request, n: Numbers, s: &[u32])
     requires { ⌜ length (now s) ≤ 24080 ⌝ }
 {
     let mut b = [0u8; 24080];
     words::narrowed(s, &mut b);
-    with_bytes(r, a, &mut b[0..s.len()]);
+    match r {
+        Request::Append => calls::append(n, &mut b[0..s.len()]),
+        _ => with_bytes(r, n, &b[0..s.len()]),
+    }
 }
 
 // The row or the bytes from a place on.
-fn on_elements(r: Request, a: &[u32; 5], line: &[u8], at: usize) {
+fn on_elements(r: Request, n: Numbers, line: &[u8], at: usize) {
     let mut s = [0u32; 24080];
     let hexadecimal = has_bytes(r);
-    let Found::Count(n) = words::elements(hexadecimal, line, at, &mut s) else {
+    let Found::Count(count) = words::elements(hexadecimal, line, at, &mut s) else {
         malformed();
         return;
     };
-    if n > 24080 {
+    if count > 24080 {
         return;
     }
     if hexadecimal {
-        of_bytes(r, a, &s[0..n]);
+        on_bytes(r, n, &s[0..count]);
     } else {
-        with_row(r, a, &s[0..n]);
+        with_row(r, n, &s[0..count]);
     }
 }
 
@@ -180,17 +186,28 @@ fn on_text(times: u32, line: &[u8], at: usize) {
     }
 }
 
+fn numbers(a: &[u32; 5]) -> Numbers {
+    Numbers {
+        first: a[0],
+        second: a[1],
+        third: a[2],
+        fourth: a[3],
+        fifth: a[4],
+    }
+}
+
 pub fn serve(line: &[u8]) {
     let at = words::find(line, 0, b' ');
     let r = named(&line[0..at]);
     let mut a = [0u32; 5];
-    let n = numbers_of(r);
-    let Found::Count(at) = words::arguments(line, at, &mut a[0..n]) else {
+    let count = numbers_of(r);
+    let Found::Count(at) = words::arguments(line, at, &mut a[0..count]) else {
         malformed();
         return;
     };
+    let n = numbers(&a);
     match r {
-        Request::Listing => on_text(a[0], line, at),
-        _ => on_elements(r, &a, line, at),
+        Request::Listing => on_text(n.first, line, at),
+        _ => on_elements(r, n, line, at),
     }
 }

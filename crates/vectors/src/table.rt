@@ -1,5 +1,6 @@
 // The table of the table decoder: a row of it, and what the bits of a row are worth after others.
 ghost use Prim.Native.Nat.{_<_};
+use crate::calls::Numbers;
 use crate::calls::malformed;
 use byte_table::Row;
 use cases::wide_number;
@@ -28,8 +29,8 @@ fn print(r: Row) {
     with_number(b", ones ", (r.next / 256) as u64);
 }
 
-pub fn row(a: &[u32; 5], s: &[u8]) {
-    let ones = a[0];
+pub fn row(n: Numbers, s: &[u8]) {
+    let ones = n.first;
     if ones > 2 {
         malformed();
         return;
@@ -42,9 +43,9 @@ pub fn row(a: &[u32; 5], s: &[u8]) {
 }
 
 // What finishes a pending codeword, or makes it longer, is worth after so many bits of it.
-pub fn moved(a: &[u32; 5], s: &[u8]) {
-    let ones = a[0];
-    let len = a[1];
+pub fn moved(n: Numbers, s: &[u8]) {
+    let ones = n.first;
+    let len = n.second;
     if ones > 2 {
         malformed();
         return;

@@ -1,5 +1,4 @@
 // The words of a line of the script, and what they say. One space stands before each word but the first.
-ghost use mathlib.Core.Path.{_≡_};
 ghost use Prim.Native.Nat.{_≤_, _<_};
 ghost use lib.ListN.{length};
 
