@@ -1,19 +1,22 @@
--- What is printed, check by check; and that it is not long.
+-- What is printed, check by check; that it is not long, and that no digit is cut off.
 use mathlib.Core.Path.{_≡_, refl, ap, ap₂, _∙_}
 use mathlib.Core.Bool.{true, false, not}
-use mathlib.Core.List.{List, map}
-use Prim.Native.Nat.{ℕ, _-_, _/_, _≤_, _<_}
+use mathlib.Core.List.{List, [], _∷_, map}
+use Prim.Native.Nat.{ℕ, suc, _+_, _-_, _*_, _/_, _≤_, _<_}
 use native.Mathlib.Omega.{arith}
 use lib.Dec.{ltb}
 use lib.ListN.{length, getD, take, drop}
 use borrow.Author.Tests.{lt-ltb, le-ltb}
-use Rattle.fibonacci.specs.Calls.{Outcome, accepted, refused, mostBytes, largest}
-use Rattle.fibonacci.proofs.Checks.{check-passed, then-passed, accepted-one}
-use Rattle.fibonacci.specs.Tables.{bounded}
+use Rattle.columns.proofs.Columns.{column-number}
+use Rattle.fibonacci.specs.Code.{size, codeword}
+use Rattle.fibonacci.specs.Calls.{Outcome, accepted, refused, Legal, largest, longest, mostBytes}
+use Rattle.fibonacci.proofs.Checks.{number-is, check-passed, then-passed, accepted-one}
+use Rattle.fibonacci.specs.Tables.{Order, bounded}
+use Rattle.codewords.proofs.Codewords.{stem-long}
 use Rattle.encoder.specs.Writing.{write}
 use Rattle.encoder.proofs.Writing.{write-is}
 use Rattle.listing_text.specs.Input.{fields, isInput}
-use Rattle.listing_text.specs.Listing.{lines, refusalLine, listingOf, mostInput, listing, printed, text, mostText, TextFits}
+use Rattle.listing_text.specs.Listing.{lines, refusalLine, listingOf, mostInput, listing, printed, text, mostText, TextFits, WholeLines, NothingCut}
 use Rattle.listing_text.proofs.Input.{fields-length, input-form}
 use Rattle.listing_text.proofs.Clipping.{listing-same, order-row, bounded-below}
 use Rattle.listing_text.proofs.Printing.{lines-length, refusal-length}
@@ -74,3 +77,23 @@ text-fits s = by (listing s) refl
         let p4 = check-passed 4 0 (ltb mostInput (length s)) _ t e in
         let p13 = check-passed 13 0 (not (isInput s)) _ t (p4 .1) in
         list-fits _ _ t (p13 .1)
+
+-- ## Digits
+
+lines-whole : (m place total : ℕ) (row : List ℕ) → Order m → Legal largest row → place + length row ≤ longest → total ≤ largest * place
+    → WholeLines m place total row
+lines-whole m place total [] o a p t = tt
+lines-whole m place total (n ∷ row) o a p t =
+    let l = number-is largest n (a .0) in
+    let b = stem-long m n (size m n n 0) o (l .0) (l .1) refl in (
+      column-number 5 place (omega arith),
+      column-number 11 n (omega (arith, l .1)),
+      column-number 5 (length (codeword m n)) (omega (arith, b .0, b .1)),
+      column-number 16 (total + n) (omega (arith, l .1)),
+      lines-whole m (suc place) (total + n) row o (a .1) (omega arith) (omega (arith, l .1)),
+    )
+
+pub nothing-cut : NothingCut
+nothing-cut m row bytes bits e =
+    let w = write-is m row mostBytes bytes bits e in
+    (lines-whole m 0 0 row (w .0 .order) (w .0 .legal) (omega (arith, w .0 .count)) (omega arith), column-number 11 bytes (omega (arith, w .0 .fits, w .1)))

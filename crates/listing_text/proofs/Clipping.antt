@@ -8,7 +8,7 @@ use native.Mathlib.Decide.{decLe}
 use lib.Dec.{leb, ltb}
 use lib.ListN.{length, getD, take, drop, length-map}
 use borrow.Author.Tests.{lt-leb}
-use Rattle.fibonacci.specs.Calls.{Outcome, accepted, refused, check, andThen, within, isOrder, isNumber, Legal, largest, longest, mostBytes, checkEach}
+use Rattle.fibonacci.specs.Calls.{Outcome, accepted, refused, check, andThen, within, isOrder, isNumber, Legal, largest, longest, checkEach}
 use Rattle.fibonacci.specs.Tables.{bounded}
 use Rattle.fibonacci.proofs.Checks.{order-is, number-is, above-number, each-accepted, each-refused}
 use Rattle.fibonacci.proofs.Lookup.{bounded-is, bounded-not}

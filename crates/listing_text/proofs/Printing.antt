@@ -9,7 +9,6 @@ use lib.Dec.{ltb}
 use lib.ListN.{length, getD, take, drop, length-append, drop-of-length-le}
 use lib.Seq.{sets, sets-eq, take-at, drop-cons}
 use borrow.Author.Tests.{lt-ltb, le-ltb, ltb-true, ltb-false}
-use Rattle.columns.specs.Columns.{column}
 use Rattle.columns.proofs.Columns.{column-length, sets-then}
 use Rattle.fibonacci.specs.Code.{codeword}
 use Rattle.fibonacci.specs.Calls.{accepted, refused, check, largest}

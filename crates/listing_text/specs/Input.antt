@@ -5,12 +5,12 @@ use mathlib.Core.List.{List, [], _∷_, _++_, map, flatten}
 use Prim.Native.Nat.{ℕ, zero, suc, _/_, _^_, _≤_, _<_}
 use lib.Dec.{eqb, ltb}
 use lib.ListN.{length, take, drop}
-use Rattle.columns.specs.Columns.{column, decimal}
+use Rattle.columns.specs.Columns.{ascii, column, decimal}
 use Rattle.fibonacci.specs.Encoding.{All}
 
 -- A line: a number right-justified with spaces in 10 columns, without leading zeros, and a line feed
 abbrev pub inputLine : ℕ → List ℕ
-inputLine n = column 10 n ++ (10 ∷ [])
+inputLine n = column 10 n ++ ascii "\n"
 
 -- The text that has a line for each number
 unfoldable pub inputOf : List ℕ → List ℕ

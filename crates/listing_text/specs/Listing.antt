@@ -1,10 +1,11 @@
 -- The listing of a row (paper 01, "The listing"; "When a call says no": Listing program).
+use mathlib.Core.Path.{_≡_}
 use mathlib.Core.Bool.{not}
 use mathlib.Core.List.{List, [], _∷_, _++_}
 use Prim.Native.Nat.{ℕ, suc, _+_, _≤_}
 use lib.Dec.{ltb}
 use lib.ListN.{length, getD, drop}
-use Rattle.columns.specs.Columns.{ascii, column}
+use Rattle.columns.specs.Columns.{ascii, column, decimal}
 use Rattle.fibonacci.specs.Code.{codeword}
 use Rattle.fibonacci.specs.Calls.{Outcome, accepted, refused, check, andThen, buffer, mostBytes}
 use Rattle.encoder.specs.Writing.{write}
@@ -70,9 +71,24 @@ put t room = check 5 0 (ltb room (length t)) (accepted (length t))
 unfoldable pub putInto : List ℕ → List ℕ → List ℕ
 putInto t before = buffer (put t (length before)) t before
 
+-- ## What holds of every text
+
 -- No text is longer than this: the header, a line for each number of the longest row, and the last line
 abbrev pub mostText : ℕ
 mostText = 155703
 
 abbrev pub TextFits : Type 0
 TextFits = (s : List ℕ) → length (text s) ≤ mostText
+
+-- A number is whole in its columns: they give it back
+abbrev pub Whole : ℕ → ℕ → Type 0
+Whole w n = decimal (column w n) ≡ n
+
+abbrev pub WholeLines : ℕ → ℕ → ℕ → List ℕ → Type 0
+WholeLines m place total [] = Unit {0}
+WholeLines m place total (n ∷ ns) =
+    Whole 5 place × Whole 11 n × Whole 5 (length (codeword m n)) × Whole 16 (total + n) × WholeLines m (suc place) (total + n) ns
+
+-- No column of a listing cuts a digit off
+abbrev pub NothingCut : Type 0
+NothingCut = (m : ℕ) (row : List ℕ) (bytes bits : ℕ) → write m row mostBytes ≡ accepted (bytes, bits) → WholeLines m 0 0 row × Whole 11 bytes
