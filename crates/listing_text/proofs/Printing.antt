@@ -27,10 +27,7 @@ line-length place n bits total = simp (length-append, column-length)
 pub rows-length : (m place total : ℕ) (row : List ℕ) → length (rowLines m place total row) ≡ 38 * length row
 unfolding rowLines
 rows-length m place total [] = refl
-rows-length m place total (n ∷ row) =
-    let line : List ℕ = rowLine place n (length (codeword m n)) (total + n) in
-    let rest : List ℕ = rowLines m (suc place) (total + n) row in
-    omega (arith, length-append line rest, line-length place n (length (codeword m n)) (total + n), rows-length m (suc place) (total + n) row)
+rows-length m place total (n ∷ row) = simp (length-append, line-length) (omega (arith, rows-length m (suc place) (total + n) row))
 
 last-length : (bytes : ℕ) → length (lastLine bytes) ≡ 17
 unfolding lastLine
