@@ -43,7 +43,7 @@ leading-length (suc w) k = omega (arith, length-append (leading w (k / 10)) (lea
 pub column-length : (w n : ℕ) → length (column w n) ≡ w
 unfolding column
 column-length zero n = refl
-column-length (suc w) n = omega (arith, length-append (leading w (n / 10)) (digit n ∷ []), leading-length w (n / 10))
+column-length (suc w) n = simp (length-append, leading-length) (omega arith)
 
 -- ## A number from its columns
 
@@ -78,8 +78,7 @@ leading-number (suc w) k h =
 pub column-number : (w n : ℕ) → n < 10 ^ w → decimal (column w n) ≡ n
 unfolding column
 column-number zero n h = unfold decimal in omega arith
-column-number (suc w) n h =
-    omega (arith, decimal-last (leading w (n / 10)) (digit n), leading-number w (n / 10) (omega (arith, pow-succ' 10 w)))
+column-number (suc w) n h = simp decimal-last (omega (arith, leading-number w (n / 10) (omega (arith, pow-succ' 10 w))))
 
 leading-below : (w k : ℕ) → decimal (leading w k) < 10 ^ w
 unfolding leading
@@ -91,7 +90,7 @@ leading-below (suc w) k =
 pub column-below : (w n : ℕ) → decimal (column w n) < 10 ^ w
 unfolding column
 column-below zero n = unfold decimal in omega arith
-column-below (suc w) n = omega (arith, decimal-last (leading w (n / 10)) (digit n), leading-below w (n / 10), pow-succ' 10 w)
+column-below (suc w) n = simp decimal-last (omega (arith, leading-below w (n / 10), pow-succ' 10 w))
 
 -- ## Putting a number, column by column from the right
 
