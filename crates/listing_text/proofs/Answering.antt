@@ -15,9 +15,9 @@ use Rattle.fibonacci.specs.Tables.{Order, bounded}
 use Rattle.codewords.proofs.Codewords.{stem-long}
 use Rattle.encoder.specs.Writing.{write}
 use Rattle.encoder.proofs.Writing.{write-is}
-use Rattle.listing_text.specs.Input.{fields, isInput}
-use Rattle.listing_text.specs.Listing.{lines, refusalLine, listingOf, mostInput, listing, printed, text, mostText, TextFits, WholeLines, NothingCut}
-use Rattle.listing_text.proofs.Input.{fields-length, input-form}
+use Rattle.listing_input.specs.Input.{mostInput, fields, isInput}
+use Rattle.listing_text.specs.Listing.{lines, refusalLine, listingOf, listing, printed, text, mostText, TextFits, WholeLines, NothingCut}
+use Rattle.listing_input.proofs.Input.{fields-length, input-form}
 use Rattle.listing_text.proofs.Clipping.{listing-same, order-row, bounded-below}
 use Rattle.listing_text.proofs.Printing.{lines-length, refusal-length}
 

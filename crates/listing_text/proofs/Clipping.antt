@@ -1,6 +1,6 @@
 -- The numbers of the input in 32 bits: one that is too large becomes 0, and both are refused alike.
 use mathlib.Core.Path.{_≡_, refl, sym, ap, ap₂, _∙_}
-use mathlib.Core.Bool.{Bool, true, false, not, _&&_}
+use mathlib.Core.Bool.{Bool, true, false, not, _&&_, and-false}
 use mathlib.Core.List.{List, [], _∷_, map}
 use Prim.Native.Nat.{ℕ, zero, suc, _-_, _≤_}
 use native.Mathlib.Omega.{arith}
@@ -14,7 +14,6 @@ use Rattle.fibonacci.proofs.Checks.{order-is, number-is, above-number, each-acc
 use Rattle.fibonacci.proofs.Lookup.{bounded-is, bounded-not}
 use Rattle.encoder.specs.Writing.{write}
 use Rattle.listing_text.specs.Listing.{lines, listingOf}
-use Rattle.listing_text.proofs.Input.{and-false}
 
 number-same : (n : ℕ) → isNumber largest (bounded n) ≡ isNumber largest n
 number-same n =

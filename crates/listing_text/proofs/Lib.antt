@@ -1,4 +1,3 @@
-pub mod Input
 pub mod Clipping
 pub mod Printing
 pub mod Answering

@@ -9,7 +9,7 @@ use Rattle.columns.specs.Columns.{ascii, column, decimal}
 use Rattle.fibonacci.specs.Code.{codeword}
 use Rattle.fibonacci.specs.Calls.{Outcome, accepted, refused, check, andThen, buffer, mostBytes}
 use Rattle.encoder.specs.Writing.{write}
-use Rattle.listing_text.specs.Input.{fields, isInput}
+use Rattle.listing_input.specs.Input.{mostInput, fields, isInput}
 
 -- ## What is printed. Each line ends in a line feed
 
@@ -42,10 +42,6 @@ refusalLine number = ascii "NO" ++ column 5 number ++ ascii "\n"
 -- The checks of writing, and the listing
 unfoldable pub listingOf : ℕ → List ℕ → Outcome (List ℕ)
 listingOf m row = andThen (write m row mostBytes) (λ x. accepted (lines m row (x .0)))
-
--- How many bytes an input has at most: the lines of an order and of the numbers of the longest row
-abbrev pub mostInput : ℕ
-mostInput = 45067
 
 -- Listing program: 4 input above 45,067 bytes; 13 an input line of another form, or no line; then write's checks. The first number is the order, the
 -- others are the row

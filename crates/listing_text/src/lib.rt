@@ -1,22 +1,12 @@
 // The listing of a row (paper 01, "The listing"), from the bytes of the input to those of the output.
 ghost use mathlib.Core.Path.{_≡_};
-ghost use mathlib.Core.Bool.{true};
-ghost use mathlib.Core.List.{map};
-ghost use Prim.Native.Nat.{_+_, _*_, _/_, _≤_};
-ghost use lib.ListN.{length, take};
+ghost use Prim.Native.Nat.{_+_, _*_, _≤_};
+ghost use lib.ListN.{length};
 ghost use lib.Seq.{sets};
-ghost use Rattle.fibonacci.specs.Tables.{Order, bounded};
+ghost use Rattle.fibonacci.specs.Tables.{Order};
 ghost use Rattle.fibonacci.specs.Calls.{Legal, largest, longest};
-ghost use Rattle.listing_text.specs.Input.{inputLine, fields, isInput, same};
-ghost use Rattle.listing_text.specs.Listing.{rowLine, rowLines, lines, refusalLine, listingOf, printed, mostInput, text};
+ghost use Rattle.listing_text.specs.Listing.{rowLine, rowLines, lines, refusalLine, listingOf, printed, text};
 ghost use Rattle.listing_text.specs.Answers.{Puts};
-
-// How many bytes an input has at most, and a line of it; how many lines that makes.
-pub const MOST_INPUT: usize = 45067;
-
-const LINE: usize = 11;
-
-const LINES: usize = 4097;
 
 // How many bytes a text has at most.
 pub const MOST_TEXT: usize = 155703;
@@ -26,48 +16,6 @@ pub enum ListingAnswer {
     Text(usize),
     // 5: the output is shorter than the text.
     Room,
-}
-
-// A line is that of the number n: the line is printed anew and compared.
-fn is_line(line: &[u8], n: u64) -> bool
-    ensures { λ r. ⌜ r ≡ same (now (line .entry)) (inputLine n) ⌝ }
-{
-    let mut good = [0u8; LINE];
-    columns::put(&mut good, 0, 10, n);
-    good[10] = b'\n';
-    check::same(line, &good)
-}
-
-// A number as one of 32 bits; one above 4,294,967,295 as 0, which is no order and no number of a row either.
-fn clip(n: u64) -> u32
-    ensures { λ r. ⌜ r ≡ bounded n ⌝ }
-{
-    if n <= fibonacci::LARGEST { n as u32 } else { 0 }
-}
-
-// Whether each line of the input is of the form, and there is one; the numbers then begin the list.
-fn parse(input: &[u8], numbers: &mut [u32; LINES]) -> bool
-    requires { ⌜ (length (now input) ≤ mostInput) × (length (now numbers) ≡ 4097) ⌝ }
-    ensures { λ r. ⌜ (r ≡ isInput (now (input .entry))) × (r ≡ true → take (length (now (input .entry)) / 11) (now (numbers .exit)) ≡ map bounded (fields (now (input .entry)))) × (length (now (numbers .exit)) ≡ 4097) ⌝ }
-{
-    if input.len() == 0 {
-        return false;
-    }
-    let count = input.len() / LINE;
-    if count * LINE != input.len() {
-        return false;
-    }
-    for i in 0..count {
-        let at = i * LINE;
-        let end = at + 10;
-        let next = at + LINE;
-        let n = columns::decimal(&input[at..end]);
-        if !is_line(&input[at..next], n) {
-            return false;
-        }
-        numbers[i] = clip(n);
-    }
-    true
 }
 
 // A number's line, from byte `at` on.
@@ -149,14 +97,14 @@ fn list(order: usize, row: &[u32], out: &mut [u8]) -> ListingAnswer
 pub fn listing(input: &[u8], out: &mut [u8]) -> ListingAnswer
     ensures { λ r. ⌜ Puts (text (now (input .entry))) (now (out .entry)) r (now (out .exit)) ⌝ }
 {
-    if input.len() > MOST_INPUT {
+    if input.len() > listing_input::MOST_INPUT {
         return refuse(out, 4);
     }
-    let mut numbers = [0u32; LINES];
-    if !parse(input, &mut numbers) {
+    let mut numbers = [0u32; listing_input::LINES];
+    if !listing_input::parse(input, &mut numbers) {
         return refuse(out, 13);
     }
-    let count = input.len() / LINE;
+    let count = input.len() / listing_input::LINE;
     let order = numbers[0] as usize;
     list(order, &numbers[1..count], out)
 }

@@ -16,6 +16,10 @@ inputLine n = column 10 n ++ ascii "\n"
 unfoldable pub inputOf : List ℕ → List ℕ
 inputOf ns = flatten (map inputLine ns)
 
+-- How many bytes an input has at most: the lines of an order and of the numbers of the longest row
+abbrev pub mostInput : ℕ
+mostInput = 45067
+
 -- The numbers in the first 10 bytes of every 11, so many of them
 unfoldable pub fieldsOf : ℕ → List ℕ → List ℕ
 fieldsOf zero s = []

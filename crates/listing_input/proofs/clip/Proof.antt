@@ -1,8 +1,8 @@
 use mathlib.Core.Path.{sym}
 use Rattle.fibonacci.proofs.Lookup.{bounded-is, bounded-not}
 use borrow.Author.Needs.{needs}
-use Rattle.listing_text.proofs.clip.Statement.{statement}
-use Rattle.listing_text.proofs.clip.Tie as tie
+use Rattle.listing_input.proofs.clip.Statement.{statement}
+use Rattle.listing_input.proofs.clip.Tie as tie
 
 cast-result : tie.Need-cast-result
 cast-result c = search needs

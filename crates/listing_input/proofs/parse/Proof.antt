@@ -6,10 +6,10 @@ use lib.ListN.{length, take, length-set, length-take}
 use borrow.Author.Needs.{needs}
 use borrow.Author.Tests.{not-true, not-false}
 use Rattle.columns.specs.Columns.{decimal}
-use Rattle.listing_text.specs.Input.{inputLine, same}
-use Rattle.listing_text.proofs.Input.{after, Parsed, input-none, input-rest, parsed-none, parsed-other, parsed-more, parsed-end}
-use Rattle.listing_text.proofs.parse.Statement.{statement}
-use Rattle.listing_text.proofs.parse.Tie as tie
+use Rattle.listing_input.specs.Input.{inputLine, same}
+use Rattle.listing_input.proofs.Input.{after, Parsed, input-none, input-rest, parsed-none, parsed-other, parsed-more, parsed-end}
+use Rattle.listing_input.proofs.parse.Statement.{statement}
+use Rattle.listing_input.proofs.parse.Tie as tie
 
 abbrev Inv-loop : tie.InvT-loop
 Inv-loop input numbers₀ count i₀ numbers i = (i ≤ count) × (length numbers ≡ 4097) × Parsed input i numbers

@@ -1,6 +1,6 @@
 -- The input: what its form says, and how it is read line by line.
 use mathlib.Core.Path.{_≡_, refl, sym, ap, ap₂, _∙_}
-use mathlib.Core.Bool.{Bool, true, false, _&&_, false≢true}
+use mathlib.Core.Bool.{Bool, true, false, _&&_, and-false, and-assoc, false≢true}
 use mathlib.Core.List.{List, [], _∷_, _++_, append-assoc, append-nil, map, flatten}
 use Prim.Native.Nat.{ℕ, zero, suc, _+_, _-_, _*_, _/_, _^_, _<_}
 use native.Mathlib.Omega.{arith}
@@ -14,7 +14,7 @@ use Rattle.columns.proofs.Columns.{column-length, column-number, column-below}
 use Rattle.fibonacci.specs.Encoding.{All}
 use Rattle.fibonacci.specs.Tables.{bounded}
 use Rattle.fibonacci.proofs.Checks.{both}
-use Rattle.listing_text.specs.Input.{inputLine, inputOf, fieldsOf, fields, same, isInput, InputForm}
+use Rattle.listing_input.specs.Input.{inputLine, inputOf, fieldsOf, fields, same, isInput, InputForm}
 
 -- ## Equal lists
 
@@ -29,14 +29,6 @@ same-true [] [] e = refl
 same-true [] (b ∷ y) e = absurd (false≢true e)
 same-true (a ∷ x) [] e = absurd (false≢true e)
 same-true (a ∷ x) (b ∷ y) e = let p = both (eqb a b) (same x y) e in ap₂ _∷_ (eqb-true a b (p .0)) (same-true x y (p .1))
-
-pub and-false : (a : Bool) → (a && false) ≡ false
-and-false true = refl
-and-false false = refl
-
-and-assoc : (a b c : Bool) → ((a && b) && c) ≡ (a && (b && c))
-and-assoc true b c = refl
-and-assoc false b c = refl
 
 pub same-append : (x y x' y' : List ℕ) → length x ≡ length x' → same (x ++ y) (x' ++ y') ≡ (same x x' && same y y')
 unfolding same

@@ -2,10 +2,10 @@ use mathlib.Core.Path.{ap, _∙_}
 use mathlib.Core.List.{List}
 use Prim.Native.Nat.{ℕ}
 use lib.ListN.{set}
-use Rattle.listing_text.proofs.Input.{line-made, same-decided}
+use Rattle.listing_input.proofs.Input.{line-made, same-decided}
 use borrow.Author.Needs.{needs}
-use Rattle.listing_text.proofs.is_line.Statement.{statement}
-use Rattle.listing_text.proofs.is_line.Tie as tie
+use Rattle.listing_input.proofs.is_line.Statement.{statement}
+use Rattle.listing_input.proofs.is_line.Tie as tie
 
 slice-aggregate-put : tie.Need-slice-aggregate-put
 slice-aggregate-put c = search needs

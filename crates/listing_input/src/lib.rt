@@ -1,0 +1,57 @@
+// The listing program's input (paper 01, "The listing"): lines with a number each, the first the order and the others the row.
+ghost use mathlib.Core.Path.{_≡_};
+ghost use mathlib.Core.Bool.{true};
+ghost use mathlib.Core.List.{map};
+ghost use Prim.Native.Nat.{_/_, _≤_};
+ghost use lib.ListN.{length, take};
+ghost use Rattle.fibonacci.specs.Tables.{bounded};
+ghost use Rattle.listing_input.specs.Input.{inputLine, fields, mostInput, isInput, same};
+
+// How many bytes an input has at most, and a line of it; how many lines that makes.
+pub const MOST_INPUT: usize = 45067;
+
+pub const LINE: usize = 11;
+
+pub const LINES: usize = 4097;
+
+// A line is that of the number n: the line is printed anew and compared.
+fn is_line(line: &[u8], n: u64) -> bool
+    ensures { λ r. ⌜ r ≡ same (now (line .entry)) (inputLine n) ⌝ }
+{
+    let mut good = [0u8; LINE];
+    columns::put(&mut good, 0, 10, n);
+    good[10] = b'\n';
+    check::same(line, &good)
+}
+
+// A number as one of 32 bits; one above 4,294,967,295 as 0, which is no order and no number of a row either.
+fn clip(n: u64) -> u32
+    ensures { λ r. ⌜ r ≡ bounded n ⌝ }
+{
+    if n <= fibonacci::LARGEST { n as u32 } else { 0 }
+}
+
+// Whether each line of the input is of the form, and there is one; the numbers then begin the list. The listing sees before that the input is not long.
+pub fn parse(input: &[u8], numbers: &mut [u32; LINES]) -> bool
+    requires { ⌜ (length (now input) ≤ mostInput) × (length (now numbers) ≡ 4097) ⌝ }
+    ensures { λ r. ⌜ (r ≡ isInput (now (input .entry))) × (r ≡ true → take (length (now (input .entry)) / 11) (now (numbers .exit)) ≡ map bounded (fields (now (input .entry)))) × (length (now (numbers .exit)) ≡ 4097) ⌝ }
+{
+    if input.len() == 0 {
+        return false;
+    }
+    let count = input.len() / LINE;
+    if count * LINE != input.len() {
+        return false;
+    }
+    for i in 0..count {
+        let at = i * LINE;
+        let end = at + 10;
+        let next = at + LINE;
+        let n = columns::decimal(&input[at..end]);
+        if !is_line(&input[at..next], n) {
+            return false;
+        }
+        numbers[i] = clip(n);
+    }
+    true
+}
