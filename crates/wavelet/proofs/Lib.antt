@@ -14,3 +14,4 @@ pub mod Exact
 pub mod Sides
 pub mod Depth
 pub mod Answering
+mod Computed
