@@ -1,0 +1,164 @@
+#include "inputs.h"
+#include "plain.h"
+
+#include <math.h>
+#include <stdio.h>
+#include <stdlib.h>
+#include <string.h>
+
+static uint64_t state = 88172645463325252u;
+
+static uint64_t draw(void)
+{
+    state ^= state << 13;
+    state ^= state >> 7;
+    state ^= state << 17;
+    return state;
+}
+
+static uint32_t number_of(enum kind kind)
+{
+    switch (kind) {
+    case GEOMETRIC:
+    case TWO_BYTES:
+        return 1 + (uint32_t)(log1p(-(double)(draw() >> 11) / 9007199254740992.0) / log1p(-1.0 / 8));
+    case TO_256:
+    case INDEXED:
+        return 1 + draw() % ALPHABET;
+    case TO_LARGEST:
+        return 1 + draw() % 4294967295u;
+    default:
+        return 1 + draw() % 1000;
+    }
+}
+
+static void *room(size_t n)
+{
+    void *p = calloc(n, 1);
+
+    if (p == NULL) {
+        fprintf(stderr, "bench: no memory\n");
+        exit(1);
+    }
+    return p;
+}
+
+static void add_row(struct input *in, size_t order, enum kind kind, size_t count)
+{
+    memset(in, 0, sizeof *in);
+    in->order = order;
+    in->count = count;
+    in->row = room(4 * count);
+    for (size_t i = 0; i < count; i++)
+        in->row[i] = number_of(kind);
+}
+
+/* The encoding of the first `count` numbers. A codeword has at most 47 bits, and what is put behind an encoding is shorter than 32 bytes. */
+static uint8_t *encoding_of(const struct input *in, size_t count, size_t *used)
+{
+    uint8_t *encoding = room(6 * in->count + 32);
+
+    *used = plain_write(in->order, in->row, count, encoding);
+    return encoding;
+}
+
+static void add_encodings(struct input *in)
+{
+    in->encoding = encoding_of(in, in->count, &in->used);
+    in->shorter = encoding_of(in, in->count - 1, &in->shorter_used);
+    in->shorter_last = in->shorter_used > 0 ? in->shorter[in->shorter_used - 1] : 0;
+    if (in->order == 2)
+        in->peer = sdsl_row_of(in->row, in->count);
+}
+
+/* The index, and a question about a place of the row. */
+static void add_index(struct input *in)
+{
+    in->index = room(2 * in->count + 8);
+    in->index_bits = plain_build(in->order, ALPHABET, in->row, in->count, in->index);
+    in->place = draw() % in->count;
+    in->number = in->row[in->place];
+    for (size_t i = 0; i <= in->place; i++)
+        in->use += in->row[i] == in->number;
+    if (in->order == 2)
+        in->peer = sdsl_row_of(in->row, in->count);
+    if (in->peer != NULL) {
+        sdsl_build(in->peer, WT_HUFF_INT);
+        sdsl_build(in->peer, WT_INT);
+    }
+}
+
+static void add_text(struct input *in)
+{
+    in->lines = in->count + 1;
+    in->text = room(11 * in->lines + 1);
+    sprintf(in->text, "%10zu\n", in->order);
+    for (size_t i = 0; i < in->count; i++)
+        sprintf(in->text + 11 * (i + 1), "%10u\n", in->row[i]);
+}
+
+/* A codeword of more than 72 zeros and the last ones is above every number of a row. */
+static void add_refused(struct input *in, enum kind kind)
+{
+    in->encoding = encoding_of(in, kind == REFUSED_7 ? in->count - 1 : in->count, &in->used);
+    if (kind == REFUSED_4)
+        in->used = plain_append(in->order, in->encoding, in->used, 1);
+    if (kind == REFUSED_6)
+        in->used += 1;
+    if (kind == REFUSED_7) {
+        in->encoding[in->used + 9] = 255;
+        in->used += 10;
+    }
+}
+
+/* Rows of one to four numbers, until one has two bytes. */
+static void add_two_bytes(struct input *in, size_t order)
+{
+    add_row(in, order, TWO_BYTES, 1 + draw() % 4);
+    in->encoding = encoding_of(in, in->count, &in->used);
+    while (in->used != 2) {
+        free(in->row);
+        free(in->encoding);
+        add_row(in, order, TWO_BYTES, 1 + draw() % 4);
+        in->encoding = encoding_of(in, in->count, &in->used);
+    }
+}
+
+static void add(struct input *in, size_t order, enum kind kind, size_t count)
+{
+    if (kind == TWO_BYTES) {
+        add_two_bytes(in, order);
+        return;
+    }
+    add_row(in, order, kind, count);
+    if (kind == TO_256 || kind == INDEXED)
+        add_index(in);
+    else if (kind == LISTED)
+        add_text(in);
+    else if (kind >= REFUSED_4)
+        add_refused(in, kind);
+    else
+        add_encodings(in);
+}
+
+void pool_fill(struct pool *p, size_t order, enum kind kind, size_t count)
+{
+    p->n = kind == TO_256 || kind == INDEXED ? 64 : 4 * 4096 / count;
+    if (p->n > POOL_MOST)
+        p->n = POOL_MOST;
+    for (size_t k = 0; k < p->n; k++)
+        add(&p->in[k], order, kind, count);
+}
+
+void pool_free(struct pool *p)
+{
+    for (size_t k = 0; k < p->n; k++) {
+        struct input *in = &p->in[k];
+        free(in->row);
+        free(in->encoding);
+        free(in->shorter);
+        free(in->index);
+        free(in->text);
+        sdsl_free(in->peer);
+    }
+}

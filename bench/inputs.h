@@ -1,0 +1,56 @@
+/* The inputs that all sides get: rows, their encodings, indexes and listings, from a fixed seed. */
+#ifndef INPUTS_H
+#define INPUTS_H
+
+#include "sdsl.h"
+
+#include <stddef.h>
+#include <stdint.h>
+
+/* The kinds of inputs. The first four say how the numbers of a row are drawn; in the others they are as named. */
+enum kind {
+    GEOMETRIC, /* with mean 8 */
+    TO_1000,
+    TO_LARGEST,
+    TO_256,
+    LISTED,    /* texts for the listing, of numbers to 1,000 */
+    TWO_BYTES, /* encodings of order 3 that have two bytes */
+    GROWING,   /* rows of many lengths, of numbers to 1,000 */
+    INDEXED,   /* the same for the index, of numbers to 256 */
+    REFUSED_4, /* encodings that are refused at their end: a number too many, */
+    REFUSED_6, /* a rest that is too long, */
+    REFUSED_7  /* a number that is too large, in the last place */
+};
+
+#define ALPHABET 256
+
+/* A row and what is made of it. What a group of calls does not need is NULL. */
+struct input {
+    size_t order, count;
+    uint32_t *row;
+    uint8_t *encoding; /* the encoding, and how many bytes it has */
+    size_t used;
+    uint8_t *shorter; /* the encoding without the last number, with room for it; its last byte, which appending changes */
+    size_t shorter_used;
+    uint8_t shorter_last;
+    uint8_t *index;
+    size_t index_bits;
+    char *text; /* the listing's input */
+    size_t lines;
+    size_t place, use; /* a question: `number` stands at `place` for the `use`-th time */
+    uint32_t number;
+    struct sdsl_row *peer; /* SDSL's row and trees, in order 2 */
+};
+
+#define POOL_MOST 2048
+
+struct pool {
+    size_t n;
+    struct input in[POOL_MOST];
+};
+
+/* Fills a pool with inputs of a kind, so many as make a few thousand numbers. */
+void pool_fill(struct pool *p, size_t order, enum kind kind, size_t count);
+void pool_free(struct pool *p);
+
+#endif

@@ -1,0 +1,302 @@
+#include "report.h"
+
+#include <math.h>
+#include <stdio.h>
+#include <stdlib.h>
+#include <string.h>
+
+#define GROUPS_MOST 256
+
+static struct times groups[GROUPS_MOST];
+static size_t group_count;
+
+/* A side beside another: the ratio to reach on rows of 4,096 numbers, or on encodings of two bytes, 0 where none is asked for. */
+struct pair {
+    enum side side, other;
+    double at_most;
+};
+
+static const struct pair pairs[] = {
+    {TABLE_READ, PLAIN_TABLE_READ, 1.1},
+    {TABLE_READ, PLAIN_READ, 0.2},
+    {TABLE_READ_BYTES, PLAIN_TABLE_READ, 0},
+    {READ, PLAIN_READ, 1.2},
+    {READ, SDSL_DECODE, 0},
+    {WRITE, PLAIN_WRITE, 0.5},
+    {WRITE, SDSL_ENCODE, 1.0},
+    {APPEND, READ, 1.1},
+    {APPEND, PLAIN_APPEND, 0},
+    {TOTAL, READ, 1.0},
+    {REPEATED_TOTAL, READ, 1.0},
+    {TOTAL, PLAIN_TOTAL, 0},
+    {REPEATED_TOTAL, PLAIN_REPEATED_TOTAL, 0},
+    {TOTAL, SDSL_SUM, 0},
+    {BUILD, PLAIN_BUILD, 1.5},
+    {BUILD, HUFF_BUILD, 0},
+    {BUILD, INT_BUILD, 0},
+    {EXTRACT, PLAIN_EXTRACT, 1.5},
+    {EXTRACT, HUFF_EXTRACT, 0},
+    {EXTRACT, INT_EXTRACT, 0},
+    {RANK, PLAIN_RANK, 1.5},
+    {RANK, HUFF_RANK, 0},
+    {RANK, INT_RANK, 0},
+    {SELECT, PLAIN_SELECT, 1.5},
+    {SELECT, HUFF_SELECT, 0},
+    {SELECT, INT_SELECT, 0},
+    {LISTING, PLAIN_LISTING, 0},
+};
+
+#define PAIRS (sizeof pairs / sizeof *pairs)
+
+/* What the byte reader has to reach on encodings of two bytes. */
+static const struct pair two_bytes = {TABLE_READ, PLAIN_READ, 4};
+
+static const char *const kind_names[] = {
+    [GEOMETRIC] = "geometric",
+    [TO_1000] = "to 1,000",
+    [TO_LARGEST] = "to 2^32-1",
+    [TO_256] = "to 256",
+    [LISTED] = "to 1,000",
+    [TWO_BYTES] = "2 bytes",
+    [REFUSED_4] = "a number too many (4)",
+    [REFUSED_6] = "a rest that is too long (6)",
+    [REFUSED_7] = "a number that is too large in the last place (7)",
+};
+
+struct times *report_times(size_t order, enum kind kind, size_t count)
+{
+    if (group_count == GROUPS_MOST) {
+        fprintf(stderr, "bench: too many groups\n");
+        exit(1);
+    }
+    struct times *t = &groups[group_count++];
+    *t = (struct times){.order = order, .kind = kind, .count = count};
+    return t;
+}
+
+/* The times of a group, or NULL. */
+static const struct times *find(size_t order, enum kind kind, size_t count)
+{
+    for (size_t i = 0; i < group_count; i++)
+        if (groups[i].order == order && groups[i].kind == kind && groups[i].count == count)
+            return &groups[i];
+    return NULL;
+}
+
+/* The ratio of a pair in a group, or 0 where one of them was not measured. */
+static double ratio(const struct times *t, struct pair p)
+{
+    if (t == NULL || t->ns[p.side] == 0 || t->ns[p.other] == 0)
+        return 0;
+    return t->ns[p.side] / t->ns[p.other];
+}
+
+/* Whether a ratio, as it is printed, is at most what it may be. */
+static int reached(double r, double at_most)
+{
+    return r < at_most + 0.005;
+}
+
+/* The worst ratio of a pair over the orders, and its group. */
+static double worst(struct pair p, enum kind kind, size_t count, const struct times **where)
+{
+    double most = 0;
+
+    for (size_t order = 2; order <= 6; order++) {
+        const struct times *t = find(order, kind, count);
+        if (ratio(t, p) > most) {
+            most = ratio(t, p);
+            *where = t;
+        }
+    }
+    return most;
+}
+
+/* ## Tables */
+
+static void reach_line(struct pair p, enum kind kind, size_t count)
+{
+    const struct times *t = NULL;
+    double r = worst(p, kind, count, &t);
+
+    if (t == NULL)
+        return;
+    printf("| %s | %s | %s | %.2f | %.2f | order %zu | %s |\n", calls[p.side].name, calls[p.other].name, kind_names[kind], p.at_most, r, t->order,
+           reached(r, p.at_most) ? "yes" : "NO");
+}
+
+static void print_reach(void)
+{
+    printf("## To reach\n\nThe worst ratio over the orders, proved side over the other, rows of 4,096 numbers.\n\n");
+    printf("| operation | against | numbers | at most | measured | at | reached |\n|---|---|---|---|---|---|---|\n");
+    for (size_t i = 0; i < PAIRS; i++)
+        for (enum kind kind = GEOMETRIC; kind <= TO_256; kind++)
+            if (pairs[i].at_most > 0)
+                reach_line(pairs[i], kind, 4096);
+    reach_line(two_bytes, TWO_BYTES, 4);
+}
+
+/* A time with three digits or so. */
+static void print_time(double ns)
+{
+    printf(ns < 10 ? "%.2f" : ns < 1000 ? "%.1f" : "%.0f", ns);
+}
+
+static void print_cell(const struct times *t, struct pair p, double per)
+{
+    double r = ratio(t, p);
+
+    if (r > 0) {
+        print_time(t->ns[p.side] / per);
+        printf(" / ");
+        print_time(t->ns[p.other] / per);
+        printf(" = %.2f", r);
+    }
+    printf(" |");
+}
+
+/* Questions are measured by the call, all else by the number. */
+static int by_call(enum side s)
+{
+    return s == EXTRACT || s == RANK || s == SELECT;
+}
+
+static void pair_line(struct pair p, enum kind kind, size_t count)
+{
+    const struct times *t = NULL;
+
+    if (worst(p, kind, count, &t) == 0)
+        return;
+    printf("| %s | %s | %zu | %s | ", calls[p.side].name, calls[p.other].name, count, kind_names[kind]);
+    for (size_t order = 2; order <= 6; order++) {
+        print_cell(find(order, kind, count), p, by_call(p.side) ? 1 : (double)count);
+        printf(order < 6 ? " " : "\n");
+    }
+}
+
+static void print_pairs(void)
+{
+    static const size_t counts[] = {4096, 64, 4};
+
+    printf("\n## All times and ratios\n\nNanoseconds a number (questions: a call), proved / other = ratio, by order.\n\n");
+    printf("| operation | against | row | numbers | order 2 | order 3 | order 4 | order 5 | order 6 |\n|---|---|---|---|---|---|---|---|---|\n");
+    for (size_t i = 0; i < PAIRS; i++)
+        for (size_t c = 0; c < 3; c++)
+            for (enum kind kind = GEOMETRIC; kind <= LISTED; kind++)
+                pair_line(pairs[i], kind, counts[c]);
+}
+
+/* A table of the times of a call against the length of the row, in order 3. */
+static void print_growth(enum kind kind, const enum side *sides, size_t n)
+{
+    printf("| row |");
+    for (size_t k = 0; k < n; k++)
+        printf(" %s |", calls[sides[k]].name);
+    printf("\n|---|");
+    for (size_t k = 0; k < n; k++)
+        printf("---|");
+    for (size_t count = 1; count <= 4096; count *= 2) {
+        const struct times *t = find(3, kind, count);
+        if (t == NULL)
+            continue;
+        printf("\n| %zu |", count);
+        for (size_t k = 0; k < n; k++) {
+            printf(" ");
+            print_time(t->ns[sides[k]]);
+            printf(" |");
+        }
+    }
+    printf("\n");
+}
+
+void report_tables(void)
+{
+    static const enum side growing[] = {READ, TABLE_READ, TOTAL, APPEND, WRITE};
+    static const enum side indexed[] = {BUILD, EXTRACT, RANK, SELECT};
+    static const enum side refused[] = {READ, TABLE_READ, TOTAL};
+
+    print_reach();
+    print_pairs();
+    printf("\n## Growth\n\nNanoseconds a call against the length of the row; order 3, numbers to 1,000.\n\n");
+    print_growth(GROWING, growing, 5);
+    printf("\nThe same for the index, numbers to 256:\n\n");
+    print_growth(INDEXED, indexed, 4);
+    for (enum kind kind = REFUSED_4; kind <= REFUSED_7; kind++) {
+        printf("\nThe same for encodings that are refused at their end, for %s:\n\n", kind_names[kind]);
+        print_growth(kind, refused, 3);
+    }
+}
+
+/* ## Picture: a bar for each ratio to reach, on a scale of powers of two, with a mark at what it may be */
+
+#define LEFT 470
+#define WIDTH 520
+#define LINE 17
+#define LEAST (1.0 / 32)
+#define MOST 8.0
+
+static double x_of(double r)
+{
+    double at = r < LEAST ? LEAST : r > MOST ? MOST : r;
+
+    return LEFT + WIDTH * log2(at / LEAST) / log2(MOST / LEAST);
+}
+
+static void bar(FILE *f, struct pair p, enum kind kind, size_t count, int *line)
+{
+    const struct times *t = NULL;
+    double r = worst(p, kind, count, &t);
+
+    if (t == NULL)
+        return;
+    int y = 50 + LINE * (*line)++;
+    fprintf(f, "<text x='%d' y='%d' text-anchor='end'>%s / %s, %s</text>\n", LEFT - 8, y + 11, calls[p.side].name, calls[p.other].name,
+            kind_names[kind]);
+    fprintf(f, "<rect x='%d' y='%d' width='%.1f' height='12' fill='%s'/>\n", LEFT, y, x_of(r) - LEFT, reached(r, p.at_most) ? "#4a7ba6" : "#c0504d");
+    fprintf(f, "<line x1='%.1f' x2='%.1f' y1='%d' y2='%d' stroke='black' stroke-width='2'/>\n", x_of(p.at_most), x_of(p.at_most), y - 2, y + 14);
+    fprintf(f, "<text x='%.1f' y='%d'>%.2f</text>\n", x_of(r > p.at_most ? r : p.at_most) + 6, y + 11, r);
+}
+
+static void axis(FILE *f, int height)
+{
+    for (double r = LEAST; r <= MOST; r *= 2) {
+        fprintf(f, "<line x1='%.1f' x2='%.1f' y1='44' y2='%d' stroke='%s'/>\n", x_of(r), x_of(r), height - 24, r == 1 ? "#888" : "#ddd");
+        fprintf(f, "<text x='%.1f' y='%d' text-anchor='middle'>", x_of(r), height - 8);
+        fprintf(f, r < 1 ? "1/%.0f</text>\n" : "%.0f</text>\n", r < 1 ? 1 / r : r);
+    }
+}
+
+static int lines_of(void)
+{
+    const struct times *t = NULL;
+    int n = worst(two_bytes, TWO_BYTES, 4, &t) > 0;
+
+    for (size_t i = 0; i < PAIRS; i++)
+        for (enum kind kind = GEOMETRIC; kind <= TO_256; kind++)
+            n += pairs[i].at_most > 0 && worst(pairs[i], kind, 4096, &t) > 0;
+    return n;
+}
+
+int report_picture(const char *folder)
+{
+    char path[4096];
+    int line = 0, height = 50 + LINE * lines_of() + 34;
+
+    snprintf(path, sizeof path, "%s/ratios.svg", folder);
+    FILE *f = fopen(path, "w");
+    if (f == NULL) {
+        fprintf(stderr, "bench: %s cannot be written\n", path);
+        return 0;
+    }
+    fprintf(f, "<svg xmlns='http://www.w3.org/2000/svg' width='%d' height='%d' font-family='sans-serif' font-size='12'>\n", LEFT + WIDTH + 70, height);
+    fprintf(f, "<rect width='100%%' height='100%%' fill='white'/>\n");
+    fprintf(f, "<text x='10' y='22' font-size='15'>Time of the proved side over the other's: rows of 4,096, the worst order; the mark is what it may be</text>\n");
+    axis(f, height);
+    for (size_t i = 0; i < PAIRS; i++)
+        for (enum kind kind = GEOMETRIC; kind <= TO_256; kind++)
+            if (pairs[i].at_most > 0)
+                bar(f, pairs[i], kind, 4096, &line);
+    bar(f, two_bytes, TWO_BYTES, 4, &line);
+    fprintf(f, "</svg>\n");
+    return fclose(f) == 0;
+}

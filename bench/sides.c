@@ -1,0 +1,192 @@
+#include "sides.h"
+#include "plain.h"
+#include "probe.h"
+
+#include <string.h>
+
+#define REPEATS 1000
+
+/* Where the results go: the answer of a proved operation, one number, numbers, bytes. */
+static uint64_t answer[4], result;
+static size_t end;
+static uint32_t numbers[4096 + 4];
+static uint64_t wide_numbers[4096 + 4];
+static uint8_t bytes[200000];
+
+uint64_t answered(void)
+{
+    return answer[0];
+}
+
+/* ## The proved operations */
+
+static void run_read(struct input *in) { probe_read(in->order, in->encoding, in->used, numbers, 4096, answer, 4); }
+static void run_table_read(struct input *in) { probe_table_read(in->encoding, in->used, numbers, 4096, answer, 4); }
+static void run_table_read_bytes(struct input *in) { probe_table_read_bytes(in->encoding, in->used, bytes, 4 * 4096, answer, 4); }
+static void run_total(struct input *in) { probe_total(in->order, in->encoding, in->used, 0, in->count, answer, 4); }
+static void run_repeated(struct input *in) { probe_repeated_total(in->order, in->encoding, in->used, REPEATS, answer, 4); }
+static void run_write(struct input *in) { probe_write(in->order, in->row, in->count, bytes, sizeof bytes, answer, 4); }
+static void run_build(struct input *in) { probe_build(in->order, ALPHABET, in->row, in->count, bytes, sizeof bytes, answer, 4); }
+static void run_listing(struct input *in) { probe_listing((const uint8_t *)in->text, 11 * in->lines, bytes, sizeof bytes, answer, 4); }
+
+/* The encoding without its last number, as it was before that was appended. */
+static void take_off(struct input *in)
+{
+    if (in->shorter_used > 0)
+        in->shorter[in->shorter_used - 1] = in->shorter_last;
+}
+
+static void run_append(struct input *in)
+{
+    take_off(in);
+    probe_append(in->order, in->shorter, 6 * in->count + 32, in->shorter_used, in->row[in->count - 1], answer, 4);
+}
+
+static void run_extract(struct input *in)
+{
+    probe_extract(in->order, ALPHABET, in->count, in->index, (in->index_bits + 7) / 8, in->place, answer, 4);
+}
+
+static void run_rank(struct input *in)
+{
+    probe_rank(in->order, ALPHABET, in->count, in->index, (in->index_bits + 7) / 8, in->number, in->place, answer, 4);
+}
+
+static void run_select(struct input *in)
+{
+    probe_select(in->order, ALPHABET, in->count, in->index, (in->index_bits + 7) / 8, in->number, in->use, answer, 4);
+}
+
+/* ## Plain C */
+
+static void plain_run_read(struct input *in) { result = plain_read(in->order, in->encoding, in->used, numbers); }
+static void plain_run_table_read(struct input *in) { result = plain_table_read(in->encoding, in->used, numbers); }
+static void plain_run_total(struct input *in) { result = plain_total(in->order, in->encoding, in->used, 0, in->count); }
+static void plain_run_repeated(struct input *in) { result = REPEATS * plain_total(in->order, in->encoding, in->used, 0, in->count); }
+static void plain_run_write(struct input *in) { result = plain_write(in->order, in->row, in->count, bytes); }
+static void plain_run_build(struct input *in) { result = plain_build(in->order, ALPHABET, in->row, in->count, bytes); }
+static void plain_run_listing(struct input *in) { result = plain_listing(in->text, in->lines, (char *)bytes); }
+
+static void plain_run_append(struct input *in)
+{
+    take_off(in);
+    result = plain_append(in->order, in->shorter, in->shorter_used, in->row[in->count - 1]);
+}
+
+static void plain_run_extract(struct input *in) { result = plain_extract(in->order, ALPHABET, in->count, in->index, in->place, &end); }
+static void plain_run_rank(struct input *in) { result = plain_rank(in->order, ALPHABET, in->count, in->index, in->number, in->place, &end); }
+static void plain_run_select(struct input *in) { result = plain_select(in->order, ALPHABET, in->count, in->index, in->number, in->use, &end); }
+
+/* ## SDSL */
+
+static void sdsl_run_decode(struct input *in) { sdsl_decode(in->peer, wide_numbers); }
+static void sdsl_run_sum(struct input *in) { result = sdsl_sum(in->peer); }
+static void sdsl_run_encode(struct input *in) { sdsl_encode(in->peer); }
+static void huff_run_build(struct input *in) { sdsl_build(in->peer, WT_HUFF_INT); }
+static void huff_run_extract(struct input *in) { result = sdsl_extract(in->peer, WT_HUFF_INT, in->place); }
+static void huff_run_rank(struct input *in) { result = sdsl_rank(in->peer, WT_HUFF_INT, in->number, in->place); }
+static void huff_run_select(struct input *in) { result = sdsl_select(in->peer, WT_HUFF_INT, in->number, in->use); }
+static void int_run_build(struct input *in) { sdsl_build(in->peer, WT_INT); }
+static void int_run_extract(struct input *in) { result = sdsl_extract(in->peer, WT_INT, in->place); }
+static void int_run_rank(struct input *in) { result = sdsl_rank(in->peer, WT_INT, in->number, in->place); }
+static void int_run_select(struct input *in) { result = sdsl_select(in->peer, WT_INT, in->number, in->use); }
+
+/* ## Whether a result is right */
+
+static uint64_t sum_of(const struct input *in)
+{
+    uint64_t sum = 0;
+
+    for (size_t i = 0; i < in->count; i++)
+        sum += in->row[i];
+    return sum;
+}
+
+static int proved(uint64_t first)
+{
+    return answer[0] == 0 && answer[2] == first;
+}
+
+static int row_of(const struct input *in)
+{
+    return memcmp(numbers, in->row, 4 * in->count) == 0;
+}
+
+static int right_row(struct input *in) { return proved(in->count) && row_of(in); }
+static int right_row_bytes(struct input *in) { return proved(in->count) && memcmp(bytes, in->row, 4 * in->count) == 0; }
+static int right_total(struct input *in) { return proved(sum_of(in)); }
+static int right_repeated(struct input *in) { return proved(REPEATS * sum_of(in)); }
+static int right_encoding(struct input *in) { return proved(in->used) && memcmp(bytes, in->encoding, in->used) == 0; }
+static int right_longer(struct input *in) { return proved(in->used) && memcmp(in->shorter, in->encoding, in->used) == 0; }
+static int right_index(struct input *in) { return proved(in->index_bits) && memcmp(bytes, in->index, (in->index_bits + 7) / 8) == 0; }
+static int right_number(struct input *in) { return proved(in->number); }
+static int right_rank(struct input *in) { return proved(in->use - 1); }
+static int right_place(struct input *in) { return proved(in->place); }
+
+static int right_text(struct input *in)
+{
+    static char text[200000];
+
+    return proved(plain_listing(in->text, in->lines, text)) && memcmp(bytes, text, answer[2]) == 0;
+}
+
+static int plain_right_row(struct input *in) { return result == in->count && row_of(in); }
+static int plain_right_total(struct input *in) { return result == sum_of(in); }
+static int plain_right_repeated(struct input *in) { return result == REPEATS * sum_of(in); }
+static int plain_right_encoding(struct input *in) { return result == in->used && memcmp(bytes, in->encoding, in->used) == 0; }
+static int plain_right_longer(struct input *in) { return result == in->used && memcmp(in->shorter, in->encoding, in->used) == 0; }
+static int plain_right_index(struct input *in) { return result == in->index_bits; }
+static int plain_right_number(struct input *in) { return result == in->number && end == in->index_bits; }
+static int plain_right_rank(struct input *in) { return result == in->use - 1 && end == in->index_bits; }
+static int plain_right_place(struct input *in) { return result == in->place && end == in->index_bits; }
+static int peer_right_number(struct input *in) { return result == in->number; }
+static int peer_right_rank(struct input *in) { return result == in->use - 1; }
+static int peer_right_place(struct input *in) { return result == in->place; }
+static int any(struct input *in) { return in->peer != NULL; }
+
+static int peer_right_row(struct input *in)
+{
+    for (size_t i = 0; i < in->count; i++)
+        if (wide_numbers[i] != in->row[i])
+            return 0;
+    return 1;
+}
+
+static int text_there(struct input *in) { return result > in->lines; }
+
+const struct call calls[SIDES] = {
+    [READ] = {"read (bit reader)", run_read, right_row},
+    [TABLE_READ] = {"table read (byte reader)", run_table_read, right_row},
+    [TABLE_READ_BYTES] = {"table read for the host", run_table_read_bytes, right_row_bytes},
+    [TOTAL] = {"total", run_total, right_total},
+    [REPEATED_TOTAL] = {"repeated total", run_repeated, right_repeated},
+    [APPEND] = {"append", run_append, right_longer},
+    [WRITE] = {"write", run_write, right_encoding},
+    [BUILD] = {"build", run_build, right_index},
+    [EXTRACT] = {"extract", run_extract, right_number},
+    [RANK] = {"rank", run_rank, right_rank},
+    [SELECT] = {"select", run_select, right_place},
+    [LISTING] = {"listing", run_listing, right_text},
+    [PLAIN_READ] = {"plain C bit reader", plain_run_read, plain_right_row},
+    [PLAIN_TABLE_READ] = {"001's table reader in C", plain_run_table_read, plain_right_row},
+    [PLAIN_TOTAL] = {"plain C", plain_run_total, plain_right_total},
+    [PLAIN_REPEATED_TOTAL] = {"plain C", plain_run_repeated, plain_right_repeated},
+    [PLAIN_APPEND] = {"plain C", plain_run_append, plain_right_longer},
+    [PLAIN_WRITE] = {"plain C writer, bit by bit", plain_run_write, plain_right_encoding},
+    [PLAIN_BUILD] = {"plain C by stable partition", plain_run_build, plain_right_index},
+    [PLAIN_EXTRACT] = {"the same walk in plain C", plain_run_extract, plain_right_number},
+    [PLAIN_RANK] = {"the same walk in plain C", plain_run_rank, plain_right_rank},
+    [PLAIN_SELECT] = {"the same walk in plain C", plain_run_select, plain_right_place},
+    [PLAIN_LISTING] = {"plain C by sprintf", plain_run_listing, text_there},
+    [SDSL_DECODE] = {"SDSL's decode", sdsl_run_decode, peer_right_row},
+    [SDSL_SUM] = {"SDSL's prefix sum", sdsl_run_sum, plain_right_total},
+    [SDSL_ENCODE] = {"SDSL's encode", sdsl_run_encode, any},
+    [HUFF_BUILD] = {"SDSL's wt_huff_int", huff_run_build, any},
+    [HUFF_EXTRACT] = {"SDSL's wt_huff_int", huff_run_extract, peer_right_number},
+    [HUFF_RANK] = {"SDSL's wt_huff_int", huff_run_rank, peer_right_rank},
+    [HUFF_SELECT] = {"SDSL's wt_huff_int", huff_run_select, peer_right_place},
+    [INT_BUILD] = {"SDSL's wt_int", int_run_build, any},
+    [INT_EXTRACT] = {"SDSL's wt_int", int_run_extract, peer_right_number},
+    [INT_RANK] = {"SDSL's wt_int", int_run_rank, peer_right_rank},
+    [INT_SELECT] = {"SDSL's wt_int", int_run_select, peer_right_place},
+};

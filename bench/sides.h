@@ -1,0 +1,56 @@
+/* What is measured: each side is one call on an input, and a test that it gave the right result. */
+#ifndef SIDES_H
+#define SIDES_H
+
+#include "inputs.h"
+
+enum side {
+    READ,
+    TABLE_READ,
+    TABLE_READ_BYTES,
+    TOTAL,
+    REPEATED_TOTAL,
+    APPEND,
+    WRITE,
+    BUILD,
+    EXTRACT,
+    RANK,
+    SELECT,
+    LISTING,
+    PLAIN_READ,
+    PLAIN_TABLE_READ,
+    PLAIN_TOTAL,
+    PLAIN_REPEATED_TOTAL,
+    PLAIN_APPEND,
+    PLAIN_WRITE,
+    PLAIN_BUILD,
+    PLAIN_EXTRACT,
+    PLAIN_RANK,
+    PLAIN_SELECT,
+    PLAIN_LISTING,
+    SDSL_DECODE,
+    SDSL_SUM,
+    SDSL_ENCODE,
+    HUFF_BUILD,
+    HUFF_EXTRACT,
+    HUFF_RANK,
+    HUFF_SELECT,
+    INT_BUILD,
+    INT_EXTRACT,
+    INT_RANK,
+    INT_SELECT,
+    SIDES
+};
+
+struct call {
+    const char *name;
+    void (*run)(struct input *in);
+    int (*right)(struct input *in); /* whether the last run gave the right result */
+};
+
+extern const struct call calls[SIDES];
+
+/* The number of the answer of the last call of a proved operation. */
+uint64_t answered(void);
+
+#endif
