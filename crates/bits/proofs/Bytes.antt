@@ -67,15 +67,18 @@ high-below b o h l =
     let e : 8 ≡ o + (8 - o) = omega arith in
     shr-lt o (8 - o) (subst (λ (n : ℕ). b < 2 ^ n) e l)
 
+-- the high bits of a byte are its first
+pub top-bits : (b o : ℕ) → o ≤ 8 → wordBits o (b / 2 ^ (8 - o)) ≡ take o (wordBits 8 b)
+top-bits b o h =
+    let e : o + (8 - o) ≡ 8 = omega arith in
+    sym (take-at (wordBits o (b / 2 ^ (8 - o))) (wordBits (8 - o) b) o (words-length o (b / 2 ^ (8 - o))))
+    ∙ ap (take o) (sym (words-split o (8 - o) b) ∙ ap (λ (n : ℕ). wordBits n b) e)
+
 -- the first bits are the high bits of the first byte
 pub first-bits : (s : List ℕ) (o : ℕ) → o ≤ 8 → 1 ≤ length s → wordBits o (getD s 0 0 / 2 ^ (8 - o)) ≡ take o (unpack s)
 unfolding unpack flatten
 first-bits [] o h i = absurd (omega arith)
-first-bits (b ∷ s) o h i =
-    let e : o + (8 - o) ≡ 8 = omega arith in
-    sym (take-at (wordBits o (b / 2 ^ (8 - o))) (wordBits (8 - o) b) o (words-length o (b / 2 ^ (8 - o))))
-    ∙ ap (take o) (sym (words-split o (8 - o) b) ∙ ap (λ (n : ℕ). wordBits n b) e)
-    ∙ sym (take-append-le o (wordBits 8 b) (unpack s) (omega (arith, words-length 8 b)))
+first-bits (b ∷ s) o h i = top-bits b o h ∙ sym (take-append-le o (wordBits 8 b) (unpack s) (omega (arith, words-length 8 b)))
 
 -- ## One bit changed
 

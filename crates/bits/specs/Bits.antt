@@ -56,11 +56,13 @@ padding n = 8 * byteCount n - n
 
 -- ## Bits put into a buffer
 
--- A list of bits with new bits after its first n, then zeros to the end of the last byte that they reach, then what stood there
+-- A list of bits with new bits after its first n, then zeros up to bit e, then what stood there
+unfoldable pub putTo : ℕ → List Bool → ℕ → List Bool → List Bool
+putTo n new e old = take n old ++ (new ++ (replicate (e - (n + length new)) false ++ drop e old))
+
+-- The same with zeros to the end of the last byte that the new bits reach
 unfoldable pub putAt : ℕ → List Bool → List Bool → List Bool
-unfolding padding
-putAt n new old =
-    take n old ++ (new ++ (replicate (padding (n + length new)) false ++ drop (8 * byteCount (n + length new)) old))
+putAt n new old = putTo n new (8 * byteCount (n + length new)) old
 
 -- ## Counting
 

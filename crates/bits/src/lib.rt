@@ -4,7 +4,7 @@ ghost use mathlib.Core.Bool.{false};
 ghost use mathlib.Core.List.{_++_};
 ghost use Prim.Native.Nat.{_+_, _-_, _*_, _^_, _≤_, _<_};
 ghost use lib.ListN.{length, take, drop, getD, set};
-ghost use Rattle.bits.specs.Bits.{wordBits, unpack, bytesOf, putAt};
+ghost use Rattle.bits.specs.Bits.{wordBits, unpack, bytesOf, putTo, putAt};
 
 // Bit k of the slice; false past its end.
 pub fn bit(s: &[u8], k: usize) -> bool
@@ -58,19 +58,51 @@ fn store(s: &mut [u8], w: u64, n: usize)
     }
 }
 
+// The same with all eight bytes of w. (So written it is compiled to one store.)
+fn store_word(s: &mut [u8], w: u64)
+    requires { ⌜ 8 ≤ length (now s) ⌝ }
+    ensures { λ r. ⌜ now (s .exit) ≡ bytesOf 8 (wordBits 64 w) ++ drop 8 (now (s .entry)) ⌝ }
+{
+    s[0] = ((w >> 56) % 256) as u8;
+    s[1] = ((w >> 48) % 256) as u8;
+    s[2] = ((w >> 40) % 256) as u8;
+    s[3] = ((w >> 32) % 256) as u8;
+    s[4] = ((w >> 24) % 256) as u8;
+    s[5] = ((w >> 16) % 256) as u8;
+    s[6] = ((w >> 8) % 256) as u8;
+    s[7] = (w % 256) as u8;
+}
+
+// The first o bits of a byte, then the len low bits of word, then zeros, as the low bits of a word, width of them.
+fn joined(first: u8, o: usize, word: u64, len: usize, width: usize) -> u64
+    requires { ⌜ (o < 8) × (1 ≤ len) × (len ≤ 56) × (word < 2 ^ len) × (8 ≤ width) × (o + len ≤ width) × (width ≤ 64) ⌝ }
+    ensures { λ r. ⌜ wordBits width r ≡ putTo o (wordBits len word) width (wordBits 8 first) ⌝ }
+{
+    let kept = wide(first) >> (8 - o);
+    let pad = width - (o + len);
+    (kept << len | word) << pad
+}
+
 // The len low bits of word after the first o bits of the slice, then zeros to the end of the byte. The writer of codewords, which are 2 to 47 bits long,
 // calls it on the part of its buffer from the byte with the first free bit, once it has seen that they fit.
 pub fn put_word(s: &mut [u8], o: usize, word: u64, len: usize)
     requires { ⌜ (o < 8) × (1 ≤ len) × (len ≤ 56) × (word < 2 ^ len) × (o + len ≤ 8 * length (now s)) ⌝ }
     ensures { λ r. ⌜ unpack (now (s .exit)) ≡ putAt o (wordBits len word) (unpack (now (s .entry))) ⌝ }
 {
-    let first = wide(s[0]);
-    let kept = first >> (8 - o);
     let n = o + len;
     let count = (n + 7) / 8;
-    let pad = 8 * count - n;
-    let all = (kept << len | word) << pad;
+    let all = joined(s[0], o, word, len, 8 * count);
     store(s, all, count);
+}
+
+// The same with zeros to the end of the eighth byte, by one store. The writer of rows calls it where eight bytes of the row are left, and writes those
+// behind the word later.
+pub fn put_over(s: &mut [u8], o: usize, word: u64, len: usize)
+    requires { ⌜ (o < 8) × (1 ≤ len) × (len ≤ 56) × (word < 2 ^ len) × (8 ≤ length (now s)) ⌝ }
+    ensures { λ r. ⌜ unpack (now (s .exit)) ≡ putTo o (wordBits len word) 64 (unpack (now (s .entry))) ⌝ }
+{
+    let all = joined(s[0], o, word, len, 64);
+    store_word(s, all);
 }
 
 // Eight bytes of the slice as a word, the first bit on top. (So written it is compiled to one load.) Whoever reads by words tests that eight

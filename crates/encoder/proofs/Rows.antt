@@ -7,7 +7,7 @@ use native.Mathlib.Omega.{arith}
 use native.Mathlib.Numerals.{add-one}
 use lib.ListN.{length, getD, take, drop, length-append, take-append-drop, drop-of-length-le}
 use lib.Seq.{take-suc, take-all, drop-cons}
-use Rattle.bits.specs.Bits.{putAt, padding}
+use Rattle.bits.specs.Bits.{putTo, putAt}
 use Rattle.bits.proofs.Put.{put-more}
 use Rattle.fibonacci.specs.Code.{size, codeword}
 use Rattle.fibonacci.specs.Encoding.{rowBits}
@@ -107,7 +107,7 @@ abbrev pub Put : ℕ → List ℕ → ℕ → ℕ → List Bool → List Bool �
 Put m row i at now old = (at ≡ length (rowBits m (take i row))) × (now ≡ putAt 0 (rowBits m (take i row)) old)
 
 pub put-none : (m : ℕ) (row : List ℕ) (old : List Bool) → Put m row 0 0 old old
-unfolding rowBits flatten putAt padding
+unfolding rowBits flatten putAt putTo
 put-none m row old = (refl, refl)
 
 module _ (m : ℕ) (row : List ℕ) (i at : ℕ) (now old : List Bool) (p : Put m row i at now old) where

@@ -1,19 +1,9 @@
 use borrow.Author.Needs.{needs}
+use Rattle.bits.specs.Bits.{wordBits, putAt}
+use Rattle.bits.proofs.Words.{words-length}
 use Rattle.bits.proofs.Put.{put-stored}
 use Rattle.bits.proofs.put_word.Statement.{statement}
 use Rattle.bits.proofs.put_word.Tie as tie
-
-slice-read-wide : tie.Need-slice-read-wide
-slice-read-wide c = search needs
-
-wide-requires : tie.Need-wide-requires
-wide-requires c κs = search needs
-
-sub-kept : tie.Need-sub-kept
-sub-kept c = search needs
-
-shr-kept : tie.Need-shr-kept
-shr-kept c = search needs
 
 add-n : tie.Need-add-n
 add-n c = search needs
@@ -21,17 +11,14 @@ add-n c = search needs
 add-count : tie.Need-add-count
 add-count c = search needs
 
-mul-pad : tie.Need-mul-pad
-mul-pad c = search needs
+slice-read-joined : tie.Need-slice-read-joined
+slice-read-joined c = search needs
 
-sub-pad : tie.Need-sub-pad
-sub-pad c = search needs
+mul-joined : tie.Need-mul-joined
+mul-joined c = search needs
 
-shl-all : tie.Need-shl-all
-shl-all c = search needs
-
-shl-all-2 : tie.Need-shl-all-2
-shl-all-2 c = search needs
+joined-requires : tie.Need-joined-requires
+joined-requires c κs = search needs
 
 store-requires : tie.Need-store-requires
 store-requires c κs = search needs
@@ -40,25 +27,23 @@ same-length : tie.Need-same-length
 same-length c = search needs
 
 returns : tie.Need-returns
+unfolding putAt
 returns c =
     let a = c .before .before .before .before .before .before .before .args in
-    let first = c .before .before .before .before .wide in
-    put-stored (a .s .now) (a .o) (a .len) (a .word) (first .result) (c .before .before .before .before .before .before .before .pre) (first .ensures) (c .before .before .store .ensures)
+    let joined = c .before .before .before .before .joined in
+    rw (words-length (a .len) (a .word))
+    (put-stored (a .s .now) _ (a .o) _ (joined .result) (wordBits (a .len) (a .word)) (search needs) (search needs) (search needs) (joined .ensures)
+    (c .before .before .store .ensures))
 
 pub put-word-spec : {M : Type 1} → statement M
 put-word-spec =
     tie.close
     (tie.spec
-    slice-read-wide
-    wide-requires
-    sub-kept
-    shr-kept
     add-n
     add-count
-    mul-pad
-    sub-pad
-    shl-all
-    shl-all-2
+    slice-read-joined
+    mul-joined
+    joined-requires
     store-requires
     same-length
     returns)
