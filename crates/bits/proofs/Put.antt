@@ -138,31 +138,6 @@ put-part s ys at new h q =
 
 -- ## One after the other
 
--- the zeros after the first bits are written over by the next
-pub put-more : (n : ℕ) (a b old : List Bool) → n ≤ length old → putAt n (a ++ b) old ≡ putAt (n + length a) b (putAt n a old)
-unfolding putAt putTo
-put-more n a b old h =
-    let n1 : ℕ = n + length a in
-    let c1 : ℕ = 8 * byteCount n1 in
-    let n2 : ℕ = n1 + length b in
-    let c2 : ℕ = 8 * byteCount n2 in
-    let head : List Bool = take n old ++ a in
-    let zeros : List Bool = replicate (c1 - n1) false in
-    let inner : putAt n a old ≡ head ++ (zeros ++ drop c1 old) = sym (append-assoc (take n old) a (zeros ++ drop c1 old)) in
-    let lh : length head ≡ n1 = length-append (take n old) a ∙ ap (λ (k : ℕ). k + length a) (length-take-le n old h) in
-    let lz : length (head ++ zeros) ≡ c1 = omega (arith, length-append head zeros, length-replicate (c1 - n1) false) in
-    let m : n + length (a ++ b) ≡ n2 = omega (arith, length-append a b) in
-    let d : c2 ≡ length (head ++ zeros) + (c2 - c1) = omega arith in
-    let q : c1 + (c2 - c1) ≡ c2 = omega arith in
-    let t : take n1 (putAt n a old) ≡ head = ap (take n1) inner ∙ take-at head (zeros ++ drop c1 old) n1 lh in
-    let r : drop c2 (putAt n a old) ≡ drop c2 old =
-    ap (drop c2) (inner ∙ sym (append-assoc head zeros (drop c1 old))) ∙ ap (λ (k : ℕ). drop k ((head ++ zeros) ++ drop c1 old)) d
-    ∙ drop-append-add (head ++ zeros) (drop c1 old) (c2 - c1) ∙ drop-drop (c2 - c1) c1 old ∙ ap (λ (k : ℕ). drop k old) q in
-    let end : List Bool = replicate (c2 - n2) false ++ drop c2 old in
-    ap (λ (k : ℕ). take n old ++ ((a ++ b) ++ (replicate (8 * byteCount k - k) false ++ drop (8 * byteCount k) old))) m
-    ∙ ap (λ (l : List Bool). take n old ++ l) (append-assoc a b end) ∙ sym (append-assoc (take n old) a (b ++ end))
-    ∙ sym (ap₂ (λ (u v : List Bool). u ++ (b ++ (replicate (c2 - n2) false ++ v))) t r)
-
 -- the bits stand at the front, with zeros to the end of their last byte, and from bit e on it is the old buffer
 abbrev pub Filled : List Bool → ℕ → List Bool → List Bool → Type 0
 Filled new e now old = (take (8 * byteCount (length new)) now ≡ new ++ replicate (padding (length new)) false) × (drop e now ≡ drop e old)

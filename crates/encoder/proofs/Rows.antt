@@ -1,5 +1,5 @@
 -- A row, number by number: its check, the length of its bits, and the bits put into a buffer.
-use mathlib.Core.Path.{_≡_, refl, sym, ap, ap₂, _∙_}
+use mathlib.Core.Path.{_≡_, refl, sym, ap, _∙_}
 use mathlib.Core.Bool.{Bool, true, false}
 use mathlib.Core.List.{List, [], _∷_, _++_, append-nil, flatten}
 use Prim.Native.Nat.{ℕ, zero, suc, _+_, _*_, _≤_, _<_}
@@ -7,8 +7,8 @@ use native.Mathlib.Omega.{arith}
 use native.Mathlib.Numerals.{add-one}
 use lib.ListN.{length, getD, take, drop, length-append, take-append-drop, drop-of-length-le}
 use lib.Seq.{take-suc, take-all, drop-cons}
-use Rattle.bits.specs.Bits.{putTo, putAt}
-use Rattle.bits.proofs.Put.{put-more}
+use Rattle.bits.specs.Bits.{byteCount, putTo, putAt}
+use Rattle.bits.proofs.Put.{Filled, filled-none, filled-more, filled-end}
 use Rattle.fibonacci.specs.Code.{size, codeword}
 use Rattle.fibonacci.specs.Encoding.{rowBits}
 use Rattle.fibonacci.specs.Calls.{Outcome, accepted, refused, isNumber, Legal, largest, checkEach}
@@ -102,15 +102,15 @@ module _ (m limit : ℕ) (row : List ℕ) (i bits : ℕ) (c : Counted m limit ro
 
 -- ## Putting
 
--- after i numbers: their codewords stand in the buffer that was old
-abbrev pub Put : ℕ → List ℕ → ℕ → ℕ → List Bool → List Bool → Type 0
-Put m row i at now old = (at ≡ length (rowBits m (take i row))) × (now ≡ putAt 0 (rowBits m (take i row)) old)
+-- after i numbers: their codewords stand in the buffer that was old, and from byte c on it is as it was
+abbrev pub Put : ℕ → List ℕ → ℕ → ℕ → ℕ → List Bool → List Bool → Type 0
+Put m row c i at now old = (at ≡ length (rowBits m (take i row))) × Filled (rowBits m (take i row)) (8 * c) now old
 
-pub put-none : (m : ℕ) (row : List ℕ) (old : List Bool) → Put m row 0 0 old old
-unfolding rowBits flatten putAt putTo
-put-none m row old = (refl, refl)
+pub put-none : (m : ℕ) (row : List ℕ) (c : ℕ) (old : List Bool) → Put m row c 0 0 old old
+unfolding rowBits flatten
+put-none m row c old = (refl, filled-none (8 * c) old)
 
-module _ (m : ℕ) (row : List ℕ) (i at : ℕ) (now old : List Bool) (p : Put m row i at now old) where
+module _ (m : ℕ) (row : List ℕ) (c i at : ℕ) (now old : List Bool) (p : Put m row c i at now old) where
   pub put-room : (n : ℕ) → i < length row → n ≡ getD row i 0 → at + length (codeword m n) ≤ length (rowBits m row)
   put-room n h e =
       omega (
@@ -122,15 +122,15 @@ module _ (m : ℕ) (row : List ℕ) (i at : ℕ) (now old : List Bool) (p : Put 
         length-append (codeword m n) (rowBits m (drop (i + 1) row)),
       )
 
-  pub put-next : (n : ℕ) (new : List Bool) → i < length row → n ≡ getD row i 0 → new ≡ putAt at (codeword m n) now
-      → Put m row (i + 1) (at + length (codeword m n)) new old
-  put-next n new h e q =
+  -- with zeros up to bit d
+  pub put-next : (n d : ℕ) (new : List Bool) → i < length row → n ≡ getD row i 0 → 8 * byteCount (at + length (codeword m n)) ≤ d → d ≤ 8 * c
+      → new ≡ putTo at (codeword m n) d now → Put m row c (i + 1) (at + length (codeword m n)) new old
+  put-next n d new h e g k q =
       let b : List Bool = rowBits m (take i row) in
-      let z : at ≡ 0 + length b = omega (arith, p .0) in
       rw (bits-done row i n h e m) (
         ap (λ (k : ℕ). k + length (codeword m n)) (p .0) ∙ sym (length-append b (codeword m n)),
-        q ∙ ap₂ (λ (k : ℕ) (l : List Bool). putAt k (codeword m n) l) z (p .1) ∙ sym (put-more 0 b (codeword m n) old (omega arith)),
+        rw (q, p .0) (filled-more b (codeword m n) (8 * c) d now old (p .1) (rw (p .0) at g) k),
       )
 
-  pub put-end : length row ≤ i → now ≡ putAt 0 (rowBits m row) old
-  put-end h = rw (take-all i row h) at (p .1)
+  pub put-end : length row ≤ i → c ≡ byteCount (length (rowBits m row)) → now ≡ putAt 0 (rowBits m row) old
+  put-end h e = filled-end (rowBits m row) now old (rw (take-all i row h, e) at (p .1))

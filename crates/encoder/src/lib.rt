@@ -1,8 +1,8 @@
 // Writing a row as its encoding of order 2 to 6.
 ghost use mathlib.Core.Path.{_≡_};
-ghost use Prim.Native.Nat.{_+_, _*_, _≤_, _<_};
+ghost use Prim.Native.Nat.{_+_, _*_, _^_, _≤_, _<_};
 ghost use lib.ListN.{length};
-ghost use Rattle.bits.specs.Bits.{unpack, putAt};
+ghost use Rattle.bits.specs.Bits.{wordBits, unpack, byteCount, putAt};
 ghost use Rattle.fibonacci.specs.Code.{F, first, codeword};
 ghost use Rattle.fibonacci.specs.Encoding.{rowBits};
 ghost use Rattle.fibonacci.specs.Tables.{Order, tableRow};
@@ -29,8 +29,25 @@ enum Measured {
     Fault(usize),
 }
 
+// A codeword: its bits are the len low ones of a word.
+struct Word {
+    bits: u64,
+    len: usize,
+}
+
+// The codeword of n. Writing and appending check the order and the number before.
+fn coded(positions: &[u32; 47], firsts: &[u32; 47], order: usize, n: u64) -> Word
+    requires { ⌜ Order order × (now positions ≡ tableRow (F order)) × (now firsts ≡ tableRow (first order)) × (1 ≤ n) × (n ≤ largest) ⌝ }
+    ensures { λ r. ⌜ (wordBits (r .len) (r .bits) ≡ codeword order n) × (r .bits < 2 ^ r .len) × (r .len ≡ length (codeword order n)) × (1 ≤ r .len) × (r .len ≤ 47) ⌝ }
+{
+    let d = codewords::stem(firsts, order, n);
+    let bits = codewords::word(positions, firsts, order, n, d);
+    let len = d + order;
+    Word { bits, len }
+}
+
 // The codeword writer: the codeword of n after the first o bits of a part of a buffer, then zeros to the end of the byte; the result is its length.
-// Writing and appending check the order and the number before, and have seen that it fits.
+// Appending checks the order and the number before, and has seen that it fits.
 pub fn put_codeword(
     part: &mut [u8],
     o: usize,
@@ -42,10 +59,9 @@ pub fn put_codeword(
     requires { ⌜ Order order × (now positions ≡ tableRow (F order)) × (now firsts ≡ tableRow (first order)) × (1 ≤ n) × (n ≤ largest) × (o < 8) × (o + length (codeword order n) ≤ 8 * length (now part)) ⌝ }
     ensures { λ r. ⌜ (r ≡ length (codeword order n)) × (unpack (now (part .exit)) ≡ putAt o (codeword order n) (unpack (now (part .entry)))) ⌝ }
 {
-    let d = codewords::stem(firsts, order, n);
-    let w = codewords::word(positions, firsts, order, n, d);
-    bits::put_word(part, o, w, d + order);
-    d + order
+    let w = coded(positions, firsts, order, n);
+    bits::put_word(part, o, w.bits, w.len);
+    w.len
 }
 
 // How many bits the codewords of a row have, or the place of the first number that is 0 or above the limit.
@@ -64,22 +80,29 @@ fn measure(firsts: &[u32; 47], order: usize, row: &[u32], limit: u64) -> Measure
     Measured::Bits(bits)
 }
 
-// The codewords of a row from the front of a buffer, in which they fit.
-fn put_row(out: &mut [u8], positions: &[u32; 47], firsts: &[u32; 47], order: usize, row: &[u32])
-    requires { ⌜ Order order × (now positions ≡ tableRow (F order)) × (now firsts ≡ tableRow (first order)) × (length (now row) ≤ longest) × Legal largest (now row) × (length (rowBits order (now row)) ≤ 8 * length (now out)) ⌝ }
+// The codewords of a row from the front of a buffer. They take so many bytes, and fit. While eight of those are left, a codeword is put over all eight:
+// what stands behind it is written later.
+fn put_row(
+    out: &mut [u8],
+    bytes: usize,
+    positions: &[u32; 47],
+    firsts: &[u32; 47],
+    order: usize,
+    row: &[u32],
+)
+    requires { ⌜ Order order × (now positions ≡ tableRow (F order)) × (now firsts ≡ tableRow (first order)) × (length (now row) ≤ longest) × Legal largest (now row) × (bytes ≡ byteCount (length (rowBits order (now row)))) × (bytes ≤ length (now out)) ⌝ }
     ensures { λ r. ⌜ unpack (now (out .exit)) ≡ putAt 0 (rowBits order (now (row .entry))) (unpack (now (out .entry))) ⌝ }
 {
     let mut at: usize = 0;
     for i in 0..row.len() {
+        let w = coded(positions, firsts, order, fibonacci::wide(row[i]));
         let k = at / 8;
-        at += put_codeword(
-            &mut out[k..],
-            at % 8,
-            positions,
-            firsts,
-            order,
-            fibonacci::wide(row[i]),
-        );
+        if k + 8 <= bytes {
+            bits::put_over(&mut out[k..], at % 8, w.bits, w.len);
+        } else {
+            bits::put_word(&mut out[k..], at % 8, w.bits, w.len);
+        }
+        at += w.len;
     }
 }
 
@@ -103,7 +126,7 @@ pub fn write(order: usize, row: &[u32], out: &mut [u8]) -> WriteAnswer
                 return WriteAnswer::Room;
             }
             let positions = fibonacci::positions(order);
-            put_row(out, &positions, &firsts, order, row);
+            put_row(out, bytes, &positions, &firsts, order, row);
             WriteAnswer::Written { bytes, bits }
         }
     }

@@ -3,6 +3,7 @@ use mathlib.Core.Bool.{true}
 use native.Mathlib.Omega.{arith}
 use borrow.Author.Needs.{needs}
 use borrow.Author.Tests.{not-true, not-false}
+use Rattle.bits.specs.Bits.{byteCount}
 use Rattle.fibonacci.specs.Calls.{isOrder, largest}
 use Rattle.fibonacci.proofs.Checks.{order-is, accepted-one, each-accepted}
 use Rattle.encoder.specs.Answers.{measuredOutcome}
@@ -65,7 +66,8 @@ put-row-requires c κs =
       c .before .before .before .before .before .before .before .before .before .before .first-numbers .ensures,
       p .count,
       p .legal,
-      omega (arith, p .long, c .before .before .before .before .if3 .left),
+      ap byteCount (sym (p .long)),
+      c .before .before .before .before .if3 .left,
     )
 
 returns-4 : tie.Need-returns-4
