@@ -20,13 +20,13 @@ pub fn bit(s: &[u8], k: usize) -> bool
     }
 }
 
-// The byte b with its bit of worth 2 ^ low set to v.
+// The byte b with its bit of worth 2 ^ low set to v, with no branch by v.
 fn with_bit(b: u8, low: usize, v: bool) -> u8
     requires { ⌜ low < 8 ⌝ }
     ensures { λ r. ⌜ wordBits 8 r ≡ set (wordBits 8 b) (7 - low) v ⌝ }
 {
     let mask: u8 = 1 << low;
-    if v { b | mask } else { b & !mask }
+    b & !mask | (v as u8) << low
 }
 
 // Bit k of the slice becomes v; where k is past its end, nothing changes.

@@ -7,10 +7,16 @@ use native.Mathlib.Omega.{arith}
 use native.Mathlib.Nat.{add-zero}
 use native.Mathlib.Numerals.{add-one}
 use lib.ListN.{length, getD, take, drop, set, length-set, length-take, length-drop, length-map, drop-of-length-le}
-use lib.Seq.{sets, take-suc-set, drop-set-lt, drop-drop, getD-drop, take-all, length-take-le}
+use lib.Seq.{sets, take-suc-set, take-set-le, drop-set-lt, drop-drop, getD-drop, take-all, length-take-le}
+use mir.Val.{boolByte}
 use Rattle.bits.specs.Bits.{count}
 use Rattle.wavelet.specs.Nodes.{those}
 use Rattle.wavelet_build.proofs.Stretches.{sets-append, those-count, map-next, pass-next, fail-next}
+
+-- a bit as a number
+pub bit-few : (v : Bool) → boolByte v ≤ 1
+bit-few false = omega arith
+bit-few true = omega arith
 
 -- After i of the words xs: they have become x, of which z are zeros, the spare words t begin with o ones, and the bits b have become c
 pub record Parting (f : ℕ → Bool) (xs x t : List ℕ) (z o i : ℕ) (at : ℕ) (b c : List Bool) : Type 0 where
@@ -45,45 +51,50 @@ module _ {f : ℕ → Bool} {xs x t : List ℕ} {z o i at : ℕ} {b c : List Boo
   stored : (y : List ℕ) (k : ℕ) → k < length y → take (k + 1) (set y k (getD x i 0)) ≡ take k y ++ (getD x i 0 ∷ [])
   stored y k lt = rw add-one (take-suc-set y k (getD x i 0) lt)
 
+  -- a word stored behind others does not change them
+  behind : (y : List ℕ) (k : ℕ) → take k (set y k (getD x i 0)) ≡ take k y
+  behind y k = take-set-le k y k (getD x i 0) (omega arith)
+
   -- its bit
-  bits-next : set c (at + i) (f (getD x i 0)) ≡ sets b at (map f (take (i + 1) xs))
-  bits-next =
+  bits-next : (v : Bool) → f (getD xs i 0) ≡ v → set c (at + i) v ≡ sets b at (map f (take (i + 1) xs))
+  bits-next v e =
       let n : at + i ≡ at + length (map f (take i xs)) =
       ap (λ (k : ℕ). at + k) (sym (length-map (take i xs) f ∙ length-take-le i xs (h .within))) in
-      let v : f (getD x i 0) ≡ f (getD xs i 0) = ap f here in
-      rw v (ap₂ (λ (y : List Bool) (k : ℕ). set y k (f (getD xs i 0))) (h .bits) n)
+      rw (← e) (ap₂ (λ (y : List Bool) (k : ℕ). set y k (f (getD xs i 0))) (h .bits) n)
       ∙ sym (ap (sets b at) (map-next xs i 0 l f) ∙ sets-append b at (map f (take i xs)) (f (getD xs i 0) ∷ []))
 
-  -- a one goes to the spare words
-  pub parting-one : f (getD x i 0) ≡ true → Parting f xs x (set t o (getD x i 0)) z (o + 1) (i + 1) at b (set c (at + i) (f (getD x i 0)))
-  parting-one e =
-      let v : f (getD xs i 0) ≡ true = ap f (sym here) ∙ e in
-      record {
-        long = h .long;
-        spare = rw length-set (h .spare);
-        within = omega arith;
-        split = omega (arith, h .split);
-        zeros = h .zeros ∙ sym (fail-next xs i 0 l (λ (n : ℕ). not (f n)) (ap not v));
-        ones = stored t o (omega (arith, h .split, h .spare)) ∙ ap₂ (λ (y : List ℕ) (n : ℕ). y ++ (n ∷ [])) (h .ones) here ∙ sym (pass-next xs i 0 l f v);
-        rest = rest-next;
-        bits = bits-next;
-      }
-
-  -- a zero goes behind the zeros
-  pub parting-zero : f (getD x i 0) ≡ false → Parting f xs (set x z (getD x i 0)) t (z + 1) o (i + 1) at b (set c (at + i) (f (getD x i 0)))
-  parting-zero e =
-      let v : f (getD xs i 0) ≡ false = ap f (sym here) ∙ e in
+  -- the word is stored behind the zeros and behind the ones, and its bit says which of the two are one more
+  pub parting-next : (v : Bool) → f (getD x i 0) ≡ v → (z' : ℕ) → z' + (o + boolByte v) ≡ i + 1
+      → Parting f xs (set x z (getD x i 0)) (set t o (getD x i 0)) z' (o + boolByte v) (i + 1) at b (set c (at + i) v)
+  parting-next v e z' n =
       record {
         long = rw length-set (h .long);
-        spare = h .spare;
+        spare = rw length-set (h .spare);
         within = omega arith;
-        split = omega (arith, h .split);
-        zeros = stored x z (omega (arith, h .split, h .long)) ∙ ap₂ (λ (y : List ℕ) (n : ℕ). y ++ (n ∷ [])) (h .zeros) here
-            ∙ sym (pass-next xs i 0 l (λ (n : ℕ). not (f n)) (ap not v));
-        ones = h .ones ∙ sym (fail-next xs i 0 l f v);
+        split = n;
+        zeros = zeros-next v w z' n;
+        ones = ones-next v w;
         rest = drop-set-lt (i + 1) x z (getD x i 0) (omega (arith, h .split)) ∙ rest-next;
-        bits = bits-next;
+        bits = bits-next v w;
       }
+    where
+      w : f (getD xs i 0) ≡ v
+      w = ap f (sym here) ∙ e
+
+      zeros-next : (v : Bool) → f (getD xs i 0) ≡ v → (z' : ℕ) → z' + (o + boolByte v) ≡ i + 1
+          → take z' (set x z (getD x i 0)) ≡ those (λ n. not (f n)) (take (i + 1) xs)
+      zeros-next false w z' n =
+          let k : z' ≡ z + 1 = omega (arith, h .split) in
+          rw k (stored x z (omega (arith, h .split, h .long)))
+          ∙ ap₂ (λ (y : List ℕ) (n : ℕ). y ++ (n ∷ [])) (h .zeros) here ∙ sym (pass-next xs i 0 l (λ (n : ℕ). not (f n)) (ap not w))
+      zeros-next true w z' n =
+          let k : z' ≡ z = omega (arith, h .split) in
+          rw k (behind x z) ∙ h .zeros ∙ sym (fail-next xs i 0 l (λ (n : ℕ). not (f n)) (ap not w))
+
+      ones-next : (v : Bool) → f (getD xs i 0) ≡ v → take (o + boolByte v) (set t o (getD x i 0)) ≡ those f (take (i + 1) xs)
+      ones-next false w = rw add-zero (behind t o) ∙ h .ones ∙ sym (fail-next xs i 0 l f w)
+      ones-next true w =
+          stored t o (omega (arith, h .split, h .spare)) ∙ ap₂ (λ (y : List ℕ) (n : ℕ). y ++ (n ∷ [])) (h .ones) here ∙ sym (pass-next xs i 0 l f w)
 
 -- all of them
 module _ {f : ℕ → Bool} {xs x t : List ℕ} {z o i at : ℕ} {b c : List Bool} (h : Parting f xs x t z o i at b c) (l : length xs ≤ i) where

@@ -54,25 +54,22 @@ fn fill(
 }
 
 // A node: writes the next bits of the words' codewords as its bitmap from bit `at` on, and parts the words by them, those with a 0 first; the result is how
-// many those are. The others go by way of `spare`.
+// many those are. The others go by way of `spare`. No branch goes by a bit, which a processor cannot foretell: each word is stored on both sides, and its
+// bit says on which it stays.
 fn part(words: &mut [u32], spare: &mut [u32], depth: usize, out: &mut [u8], at: usize) -> usize
     requires { ⌜ (depth < 32) × (length (now words) ≤ length (now spare)) × (at + length (now words) ≤ 8 * length (now out)) × (8 * length (now out) < 2 ^ 64) ⌝ }
     ensures { λ r. ⌜ (r ≡ count false (map (bitAfter depth) (now (words .entry)))) × (now (words .exit) ≡ parted depth (now (words .entry))) × (unpack (now (out .exit)) ≡ sets (unpack (now (out .entry))) at (map (bitAfter depth) (now (words .entry)))) ⌝ }
 {
-    let mut zeros: usize = 0;
     let mut ones: usize = 0;
     for i in 0..words.len() {
         let x = words[i];
         let one = wavelet::next_bit(x, depth);
         bits::set_bit(out, at + i, one);
-        if one {
-            spare[ones] = x;
-            ones += 1;
-        } else {
-            words[zeros] = x;
-            zeros += 1;
-        }
+        spare[ones] = x;
+        words[i - ones] = x;
+        ones += one as usize;
     }
+    let zeros = words.len() - ones;
     lists::copy(&mut words[zeros..], spare, ones);
     zeros
 }

@@ -1,22 +1,21 @@
 use mathlib.Core.Path.{_≡_, refl, sym, _∙_}
-use mathlib.Core.Logic.{⊎-elim}
 use Prim.Native.Nat.{_-_, _<_}
 use native.Mathlib.Omega.{arith}
 use lib.ListN.{length, drop, length-set, length-take, length-drop}
 use borrow.Rule.Slice.PartMut.{same-len-mid}
 use Rattle.bits.specs.Bits.{unpack}
 use Rattle.wavelet_build.specs.Building.{bitAfter}
-use Rattle.wavelet_build.proofs.Parting.{Parting, parting-none, parting-one, parting-zero, parted-count, parted-words, parted-bits}
+use Rattle.wavelet_build.proofs.Parting.{Parting, bit-few, parting-none, parting-next, parted-count, parted-words, parted-bits}
 use Rattle.wavelet_build.proofs.part.Statement.{statement}
 use Rattle.wavelet_build.proofs.part.Tie as tie
 
 abbrev Inv-loop : tie.InvT-loop
-Inv-loop words₀ spare₀ depth out₀ at zeros₀ ones₀ i₀ i-end words spare out zeros ones i =
-    Parting (bitAfter depth) words₀ words spare zeros ones i at (unpack out₀) (unpack out)
+Inv-loop words₀ spare₀ depth out₀ at ones₀ i₀ i-end words spare out ones i =
+    Parting (bitAfter depth) words₀ words spare (i - ones) ones i at (unpack out₀) (unpack out)
     × (i-end ≡ length words₀) × (length spare ≡ length spare₀) × (length out ≡ length out₀)
 
 abbrev μ-loop : tie.MeasureT-loop
-μ-loop words₀ spare₀ depth out₀ at zeros₀ ones₀ i₀ i-end words spare out zeros ones i = i-end - i
+μ-loop words₀ spare₀ depth out₀ at ones₀ i₀ i-end words spare out ones i = i-end - i
 
 loop-holds : tie.Need-loop-holds Inv-loop μ-loop
 loop-holds c =
@@ -44,8 +43,8 @@ mul-spare c = omega arith
 slice-write-spare : tie.Need-slice-write-spare Inv-loop μ-loop
 slice-write-spare c = omega arith
 
-add-ones : tie.Need-add-ones Inv-loop μ-loop
-add-ones c = omega arith
+sub-words : tie.Need-sub-words Inv-loop μ-loop
+sub-words c = omega arith
 
 mul-words : tie.Need-mul-words Inv-loop μ-loop
 mul-words c = omega arith
@@ -53,8 +52,11 @@ mul-words c = omega arith
 slice-write-words : tie.Need-slice-write-words Inv-loop μ-loop
 slice-write-words c = omega arith
 
-add-zeros : tie.Need-add-zeros Inv-loop μ-loop
-add-zeros c = omega arith
+cast-ones : tie.Need-cast-ones Inv-loop μ-loop
+cast-ones c = tt
+
+add-ones : tie.Need-add-ones Inv-loop μ-loop
+add-ones c = omega (arith, bit-few (c .before .before .before .before .next-bit .result))
 
 add-i : tie.Need-add-i Inv-loop μ-loop
 add-i c = omega arith
@@ -64,18 +66,15 @@ loop-less c = omega arith
 
 loop-again : tie.Need-loop-again Inv-loop μ-loop
 loop-again c =
-    let l = c .before .before .before .before .before .before .before .before .loop in
-    let p = l .inv .0 in
-    let bit = c .before .before .before .before .before .next-bit .ensures in
-    let set = c .before .before .before .set-bit in
-    let a = c .before .before .before .before .before .before .before .before .before .before .before .before .args in
+    let l = c .before .before .before .before .before .before .before .loop in
+    let bit = c .before .before .before .before .next-bit in
+    let set = c .before .before .set-bit in
+    let a = c .before .before .before .before .before .before .before .before .before .before .before .args in
     let here : l .i < length (a .words .now) = omega arith in
-    ⊎-elim
-    (λ w. rw (w .1, w .2, w .3, w .4, set .ensures, bit)
-    (parting-one p here (sym bit ∙ w .0 .taken), refl, simp length-set (l .inv .2), set .kept .0 ∙ l .inv .3))
-    (λ w. rw (w .1, w .2, w .3, w .4, set .ensures, bit)
-    (parting-zero p here (sym bit ∙ w .0 .left), refl, l .inv .2, set .kept .0 ∙ l .inv .3))
-    (c .if1 .came)
+    (rw (set .ensures) (parting-next (l .inv .0) here (bit .result) (sym (bit .ensures)) _ (omega (arith, bit-few (bit .result)))), refl, simp length-set (l .inv .2), set .kept .0 ∙ l .inv .3)
+
+sub-zeros : tie.Need-sub-zeros Inv-loop μ-loop
+sub-zeros c = omega arith
 
 mul-copy : tie.Need-mul-copy Inv-loop μ-loop
 mul-copy c = omega arith
@@ -92,13 +91,15 @@ part-copy-end c = omega arith
 copy-requires : tie.Need-copy-requires Inv-loop μ-loop
 copy-requires c κs =
     let l = c .before .before .before .loop in
-    (omega arith, omega (arith, length-take (length (l .words) - l .zeros) (drop (l .zeros) (l .words)), length-drop (l .zeros) (l .words)))
+    let zeros = length (l .words) - l .ones in
+    (omega arith, omega (arith, length-take (length (l .words) - zeros) (drop zeros (l .words)), length-drop zeros (l .words)))
 
 same-length : tie.Need-same-length Inv-loop μ-loop
 same-length c =
     let l = c .before .before .before .before .before .before .loop in
+    let zeros = length (l .words) - l .ones in
     let y = c .before .before .copy in
-    same-len-mid (l .zeros) (length (l .words) - l .zeros) (l .words) (y .last .0) (y .kept .0) ∙ l .inv .0 .long
+    same-len-mid zeros (length (l .words) - zeros) (l .words) (y .last .0) (y .kept .0) ∙ l .inv .0 .long
 
 same-length-2 : tie.Need-same-length-2 Inv-loop μ-loop
 same-length-2 c = c .before .before .before .before .before .before .loop .inv .2
@@ -109,7 +110,8 @@ same-length-3 c = c .before .before .before .before .before .before .loop .inv .
 returns : tie.Need-returns Inv-loop μ-loop
 returns c =
     let l = c .before .before .before .before .before .before .loop in
-    let p = l .inv .0 in
+    let all : l .i - l .ones ≡ length (l .words) - l .ones = omega arith in
+    let p = rw all at (l .inv .0) in
     (parted-count p (omega arith), parted-words p (omega arith) _ (c .before .before .copy .ensures), parted-bits p (omega arith))
 
 pub part-spec : {M : Type 1} → statement M
@@ -126,13 +128,15 @@ part-spec =
     set-bit-requires
     mul-spare
     slice-write-spare
-    add-ones
+    sub-words
     mul-words
     slice-write-words
-    add-zeros
+    cast-ones
+    add-ones
     add-i
     loop-less
     loop-again
+    sub-zeros
     mul-copy
     sub-copy
     part-copy-start
