@@ -1,10 +1,53 @@
 // The codeword of a number in order 2 to 6 as a word, at most 47 bits long.
 ghost use mathlib.Core.Path.{_≡_};
-ghost use Prim.Native.Nat.{_+_, _^_, _≤_, _<_};
-ghost use Rattle.bits.specs.Bits.{wordBits};
+ghost use Prim.Native.Nat.{_+_, _-_, _^_, _≤_, _<_, min};
+ghost use lib.Dec.{leb};
+ghost use Rattle.bits.specs.Bits.{worth, wordBits};
 ghost use Rattle.fibonacci.specs.Code.{F, first, size, codeword};
 ghost use Rattle.fibonacci.specs.Tables.{Order, tableRow};
 ghost use Rattle.fibonacci.specs.Calls.{largest};
+ghost use Rattle.codewords.specs.Digits.{rate, lowCount, lowDigits, Begun};
+
+mod tables;
+
+use tables::LOW_DIGITS;
+
+// Digits of a codeword above its lowest: the word so far, with the last ones below them, and the value that is left for the lowest.
+struct High {
+    word: u64,
+    left: u64,
+}
+
+// How many digits eight bits of a number make, at least.
+fn rate(order: usize) -> usize
+    ensures { λ r. ⌜ r ≡ rate order ⌝ }
+{
+    if order == 2 {
+        11
+    } else if order == 3 {
+        9
+    } else {
+        8
+    }
+}
+
+// A first guess at the bits of the codeword of n before its last ones, by the length of n in bits: right, or up to three too few.
+fn guess(order: usize, n: u64) -> usize
+    requires { ⌜ Order order × (1 ≤ n) × (n ≤ largest) ⌝ }
+    ensures { λ r. ⌜ (first order r ≤ n) × (n < first order (r + 4)) × (r ≤ 42) ⌝ }
+{
+    let b = 63 - u64::leading_zeros(n) as usize;
+    b * rate(order) / 8
+}
+
+// 1 where the first number of d bits before the last ones is at most n, else 0: a number to add, so that `stem` has no branch on n.
+fn reached(firsts: &[u32; 47], order: usize, d: usize, n: u64) -> usize
+    requires { ⌜ Order order × (now firsts ≡ tableRow (first order)) × (d < 47) × (n ≤ largest) ⌝ }
+    ensures { λ r. ⌜ (r ≡ worth (leb (first order d) n)) × (r ≤ 1) ⌝ }
+{
+    let x = fibonacci::wide(firsts[d]);
+    if x != 0 && x <= n { 1 } else { 0 }
+}
 
 // How many bits of the codeword of n stand before its last ones: the largest d whose first number is at most n. Writing and the row index check the order
 // and the number before.
@@ -12,30 +55,80 @@ pub fn stem(firsts: &[u32; 47], order: usize, n: u64) -> usize
     requires { ⌜ Order order × (now firsts ≡ tableRow (first order)) × (1 ≤ n) × (n ≤ largest) ⌝ }
     ensures { λ r. ⌜ r ≡ size order n n 0 ⌝ }
 {
-    let mut d: usize = 0;
-    loop {
-        let next = fibonacci::first_number(firsts, order, d + 1);
-        if next == 0 || n < next {
-            return d;
-        }
-        d += 1;
+    let d = guess(order, n);
+    let one = reached(firsts, order, d + 1, n);
+    let two = reached(firsts, order, d + 2, n);
+    let three = reached(firsts, order, d + 3, n);
+    d + one + two + three
+}
+
+// How many of the lowest digits `word` looks up at once.
+fn low_count(order: usize) -> usize
+    ensures { λ r. ⌜ r ≡ lowCount order ⌝ }
+{
+    if order == 2 { 8 } else { 6 }
+}
+
+// The lowest digits of the numbers below 64: a row that a caller takes once and hands to `word`. Every operation checks its order before.
+pub fn low_digits(order: usize) -> [u8; 64]
+    requires { ⌜ Order order ⌝ }
+    ensures { λ r. ⌜ r ≡ lowDigits order ⌝ }
+{
+    let i = order - 2;
+    LOW_DIGITS[i]
+}
+
+// The greedy digit of a position of value f: 1 where f is at most what is left, else 0. What is left comes with 2^32 added, and the difference reaches 2^32
+// exactly where the digit is 1: arithmetic, as the compiler makes a branch of an `if` here, and the loop then takes twice as long.
+fn digit(f: u64, above: u64) -> u64
+    requires { ⌜ (f ≤ largest) × (2 ^ 32 ≤ above) × (above ≤ 2 ^ 32 + largest) ⌝ }
+    ensures { λ r. ⌜ (r ≡ worth (leb f (above - 2 ^ 32))) × (r ≤ 1) ⌝ }
+{
+    (above - f) >> 32
+}
+
+// The digits from position d down to the one above `low`, none where d is no more than that, before the last ones. `word` hands on what it is called with.
+fn high_digits(
+    positions: &[u32; 47],
+    firsts: &[u32; 47],
+    order: usize,
+    n: u64,
+    d: usize,
+    low: usize,
+) -> High
+    requires { ⌜ Order order × (now positions ≡ tableRow (F order)) × (now firsts ≡ tableRow (first order)) × (1 ≤ n) × (n ≤ largest) × (d ≡ size order n n 0) ⌝ }
+    ensures { λ r. ⌜ Begun order n d (min d low) (r .left) (r .word) ⌝ }
+{
+    let mut w: u64 = (1 << order) - 1;
+    let mut above = n - fibonacci::first_number(firsts, order, d) + 4294967296;
+    let mut j = d;
+    while j > low {
+        let f = fibonacci::position(positions, order, j);
+        let one = digit(f, above);
+        above -= one * f;
+        w += one << (order + d - j);
+        j -= 1;
     }
+    let left = above - 4294967296;
+    High { word: w, left }
 }
 
 // The codeword of n as a word, where d of its bits stand before its last ones: those ones, and in front of them the digits, the highest first.
-// Writing and the row index check the order and the number before, and have d from `stem`.
-pub fn word(positions: &[u32; 47], firsts: &[u32; 47], order: usize, n: u64, d: usize) -> u64
-    requires { ⌜ Order order × (now positions ≡ tableRow (F order)) × (now firsts ≡ tableRow (first order)) × (1 ≤ n) × (n ≤ largest) × (d ≡ size order n n 0) ⌝ }
+// Writing and the row index check the order and the number before, and have d from `stem` and the tables from above.
+pub fn word(
+    positions: &[u32; 47],
+    firsts: &[u32; 47],
+    low: &[u8; 64],
+    order: usize,
+    n: u64,
+    d: usize,
+) -> u64
+    requires { ⌜ Order order × (now positions ≡ tableRow (F order)) × (now firsts ≡ tableRow (first order)) × (now low ≡ lowDigits order) × (1 ≤ n) × (n ≤ largest) × (d ≡ size order n n 0) ⌝ }
     ensures { λ r. ⌜ (wordBits (d + order) r ≡ codeword order n) × (r < 2 ^ (d + order)) ⌝ }
 {
-    let mut w: u64 = (1 << order) - 1;
-    let mut left = n - fibonacci::first_number(firsts, order, d);
-    for i in 0..d {
-        let f = fibonacci::position(positions, order, d - i);
-        if f <= left {
-            left -= f;
-            w += 1 << (order + i);
-        }
-    }
-    w
+    let count = low_count(order);
+    let high = high_digits(positions, firsts, order, n, d, count);
+    let left = high.left as usize;
+    let digits = bits::wide(low[left]);
+    high.word + (digits << (d + order) >> count)
 }

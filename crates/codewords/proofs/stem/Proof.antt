@@ -1,61 +1,57 @@
-use mathlib.Core.Logic.{⊎-elim, inl, inr}
-use Prim.Native.Nat.{_-_, _≤_, _<_}
-use native.Mathlib.Omega.{arith}
 use borrow.Author.Needs.{needs}
-use borrow.Author.Tests.{ltb-true, ltb-false}
-use Rattle.fibonacci.specs.Code.{first}
-use Rattle.codewords.proofs.Codewords.{stem-end, stem-more}
+use Rattle.codewords.proofs.Codewords.{stem-is}
 use Rattle.codewords.proofs.stem.Statement.{statement}
 use Rattle.codewords.proofs.stem.Tie as tie
 
-abbrev Inv-loop : tie.InvT-loop
-Inv-loop firsts order n d₀ d = (d < 47) × (first order d ≤ n)
+guess-requires : tie.Need-guess-requires
+guess-requires c κs = search needs
 
-abbrev μ-loop : tie.MeasureT-loop
-μ-loop firsts order n d₀ d = 47 - d
+add-reached : tie.Need-add-reached
+add-reached c = search needs
 
-loop-holds : tie.Need-loop-holds Inv-loop μ-loop
-unfolding first
-loop-holds c = omega arith
+reached-requires : tie.Need-reached-requires
+reached-requires c κs = search needs
 
-add-first-number : tie.Need-add-first-number Inv-loop μ-loop
-add-first-number c = omega arith
+add-reached-2 : tie.Need-add-reached-2
+add-reached-2 c = search needs
 
-first-number-requires : tie.Need-first-number-requires Inv-loop μ-loop
-first-number-requires c κs = search needs
+reached-requires-2 : tie.Need-reached-requires-2
+reached-requires-2 c κs = search needs
 
-returns : tie.Need-returns Inv-loop μ-loop
+add-reached-3 : tie.Need-add-reached-3
+add-reached-3 c = search needs
+
+reached-requires-3 : tie.Need-reached-requires-3
+reached-requires-3 c κs = search needs
+
+add-result : tie.Need-add-result
+add-result c = search needs
+
+add-result-2 : tie.Need-add-result-2
+add-result-2 c = search needs
+
+add-result-3 : tie.Need-add-result-3
+add-result-3 c = search needs
+
+returns : tie.Need-returns
 returns c =
-    let a = c .before .before .before .args in
-    let p = c .before .before .before .pre in
-    let l = c .before .before .loop in
-    let x = c .before .first-number in
-    stem-end (a .order) (a .n) (l .d) (x .result) (omega arith) (p .2) (p .3) (l .inv .1) (x .ensures)
-    (⊎-elim (λ w. inl (w .taken)) (λ w. inr (ltb-true _ _ (w .1 .taken))) (c .if1 .came))
-
-add-d : tie.Need-add-d Inv-loop μ-loop
-add-d c = omega arith
-
-loop-less : tie.Need-loop-less Inv-loop μ-loop
-loop-less c = omega arith
-
-loop-again : tie.Need-loop-again Inv-loop μ-loop
-loop-again c =
-    let a = c .before .before .before .before .args in
-    let l = c .before .before .before .loop in
-    let x = c .before .before .first-number in
-    stem-more (a .order) (a .n) (l .d) (x .result) (c .before .before .before .before .pre .0) (x .ensures) (c .before .if1 .left) (ltb-false _ _ (c .if2 .left))
+    let z = c .before .before .before .before in
+    let g = c .before .before .before .guess in
+    rw (c .before .before .reached .ensures .0, c .before .reached2 .ensures .0, c .reached3 .ensures .0)
+    (stem-is (z .args .order) (z .args .n) (g .result) (z .pre .0) (z .pre .2) (g .ensures .0) (g .ensures .1))
 
 pub stem-spec : {M : Type 1} → statement M
 stem-spec =
     tie.close
     (tie.spec
-    Inv-loop
-    μ-loop
-    loop-holds
-    add-first-number
-    first-number-requires
-    returns
-    add-d
-    loop-less
-    loop-again)
+    guess-requires
+    add-reached
+    reached-requires
+    add-reached-2
+    reached-requires-2
+    add-reached-3
+    reached-requires-3
+    add-result
+    add-result-2
+    add-result-3
+    returns)

@@ -1,109 +1,89 @@
-use mathlib.Core.Path.{_≡_, subst}
-use mathlib.Core.Logic.{⊎-elim}
-use Prim.Native.Nat.{ℕ, _+_, _-_, _≤_, _<_}
+use mathlib.Core.Path.{_≡_, sym, ap, _∙_}
+use mathlib.Core.List.{List}
+use Prim.Native.Nat.{ℕ, _+_, _*_, _/_, _%_, _^_, _≤_, _<_, min}
 use native.Mathlib.Omega.{arith}
-use lib.Pow.{pow-pos, pow-mono}
+use lib.ListN.{getD}
+use lib.Pow.{pow-mono}
 use borrow.Author.Needs.{needs}
-use Rattle.codewords.proofs.Codewords.{stem-long, shifted-one, Built, position-legal, built-start, built-one, built-zero, built-end}
+use Rattle.bits.specs.Bits.{wordBits}
+use Rattle.fibonacci.specs.Code.{codeword}
+use Rattle.codewords.specs.Digits.{lowWord}
+use Rattle.codewords.proofs.Codewords.{stem-long, low-at, low-few, low-within, begun-end}
 use Rattle.codewords.proofs.word.Statement.{statement}
 use Rattle.codewords.proofs.word.Tie as tie
 
-abbrev Inv-loop : tie.InvT-loop
-Inv-loop positions firsts order n d w₀ left₀ i₀ w left i = (i ≤ d) × (d < 47) × Built order n d i left w
+long : (c : tie.Start) → c .args .d + c .args .order ≤ 47
+long c = let p = c .pre in stem-long _ _ _ (p .0) (p .4) (p .5) (p .6) .1
 
-abbrev μ-loop : tie.MeasureT-loop
-μ-loop positions firsts order n d w₀ left₀ i₀ w left i = d - i
+few : (c : tie.After-low-count) → c .low-count .result ≤ 8
+few c = omega (arith, c .low-count .ensures, low-few (c .before .args .order) (c .before .pre .0))
 
-shl-w : tie.Need-shl-w Inv-loop μ-loop
-shl-w c = omega arith
+-- what is left is in the table
+within : (c : tie.After-high-digits) → c .high-digits .result .left < 64
+within c =
+    let z = c .before .before in
+    let stop : ℕ = min (z .args .d) (c .before .low-count .result) in
+    low-within (z .args .order) stop (c .high-digits .result .left) (z .pre .0) (omega (arith, c .before .low-count .ensures)) (c .high-digits .ensures .2)
 
-sub-w : tie.Need-sub-w Inv-loop μ-loop
-sub-w c = omega (arith, shifted-one (c .args .order) (omega arith), pow-pos (c .args .order))
+-- what is looked up
+looked : (c : tie.After-wide)
+    → c .wide .result ≡ lowWord (c .before .before .before .before .args .order) (c .before .before .before .low-count .result) (c .before .before .high-digits .result .left)
+looked c =
+    let z = c .before .before .before .before in
+    let h = c .before .before .high-digits in
+    c .wide .ensures .0 ∙ ap (λ (l : List ℕ). getD l (h .result .left) 0) (z .pre .3) ∙ low-at (z .args .order) (h .result .left) (within (c .before .before))
+    ∙ ap (λ (t : ℕ). lowWord (z .args .order) t (h .result .left)) (sym (c .before .before .before .low-count .ensures))
 
-first-number-requires : tie.Need-first-number-requires Inv-loop μ-loop
-first-number-requires c κs = search needs
+-- the result
+made : (c : tie.After-wide)
+    → let a = c .before .before .before .before .args in
+    let r = c .before .before .high-digits .result .word + c .wide .result * 2 ^ (a .d + a .order) % 2 ^ 64 / 2 ^ c .before .before .before .low-count .result in
+    (wordBits (a .d + a .order) r ≡ codeword (a .order) (a .n)) × (r < 2 ^ (a .d + a .order))
+made c =
+    let z = c .before .before .before .before in
+    let h = c .before .before .high-digits in
+    begun-end (z .args .order) (z .args .n) (z .args .d) (c .before .before .before .low-count .result) (h .result .left) (h .result .word) (z .pre .0) (long z)
+    (few (c .before .before .before)) (h .ensures) (c .wide .result) (looked c)
 
-sub-left : tie.Need-sub-left Inv-loop μ-loop
-sub-left c =
-    let a = c .before .args in
-    let p = c .before .pre in
-    built-start (a .order) (a .n) (a .d) (p .0) (p .3) (p .4) (p .5) (c .first-number .result) (c .first-number .ensures) .0
+low-count-requires : tie.Need-low-count-requires
+low-count-requires c κs = search needs
 
-loop-holds : tie.Need-loop-holds Inv-loop μ-loop
-loop-holds c =
-    let a = c .before .args in
-    let p = c .before .pre in (
-      omega arith,
-      omega (arith, stem-long (a .order) (a .n) (a .d) (p .0) (p .3) (p .4) (p .5)),
-      built-start (a .order) (a .n) (a .d) (p .0) (p .3) (p .4) (p .5) (c .first-number .result) (c .first-number .ensures) .1,
-    )
+high-digits-requires : tie.Need-high-digits-requires
+high-digits-requires c κs = search needs
 
-sub-position : tie.Need-sub-position Inv-loop μ-loop
-sub-position c = omega arith
+element-copy-out-wide : tie.Need-element-copy-out-wide
+element-copy-out-wide c = within c
 
-position-requires : tie.Need-position-requires Inv-loop μ-loop
-position-requires c κs =
-    let a = c .before .before .before .args in
-    let p = c .before .before .before .pre in
-    (p .0, p .1, position-legal (a .order) (a .n) (a .d) (p .0) (p .3) (p .4) (p .5) (c .before .loop .i))
+wide-requires : tie.Need-wide-requires
+wide-requires c κs = search needs
 
-add-w : tie.Need-add-w Inv-loop μ-loop
-add-w c = omega arith
+add-result : tie.Need-add-result
+add-result c = omega (arith, long (c .before .before .before .before))
 
-shl-w-2 : tie.Need-shl-w-2 Inv-loop μ-loop
-shl-w-2 c = omega arith
+shl-result : tie.Need-shl-result
+shl-result c = omega (arith, long (c .before .before .before .before))
 
-add-w-2 : tie.Need-add-w-2 Inv-loop μ-loop
-add-w-2 c =
-    let k = c .before .before .before .before .before .args .order + c .before .before .before .loop .i in
-    omega (arith, shifted-one k (omega arith), pow-mono {i = k} {j = 63} (omega arith))
+shr-result : tie.Need-shr-result
+shr-result c = omega (arith, few (c .before .before .before))
 
-add-i : tie.Need-add-i Inv-loop μ-loop
-add-i c = omega arith
+add-result-2 : tie.Need-add-result-2
+add-result-2 c =
+    let z = c .before .before .before .before .before in
+    record { fits = omega (arith, made (c .before) .1, pow-mono {i = z .args .d + z .args .order} {j = 63} (omega (arith, long z))) }
 
-loop-less : tie.Need-loop-less Inv-loop μ-loop
-loop-less c = omega arith
-
-loop-again : tie.Need-loop-again Inv-loop μ-loop
-loop-again c =
-    let a = c .before .before .before .before .before .args in
-    let l = c .before .before .before .loop in
-    let f = c .before .position in
-    let h = c .before .before .loop-test .taken in (
-      omega arith,
-      omega arith,
-      ⊎-elim
-          (λ t.
-          rw (t .1, t .2)
-          (built-one (a .order) (a .n) (a .d) (l .i) (l .left) (l .w) (f .result) h (f .ensures) (l .inv .2) (omega arith) (t .0 .taken)))
-          (λ t. rw (t .1, t .2) (built-zero (a .order) (a .n) (a .d) (l .i) (l .left) (l .w) (f .result) h (f .ensures) (l .inv .2) (t .0 .left)))
-          (c .if1 .came),
-    )
-
-returns : tie.Need-returns Inv-loop μ-loop
-returns c =
-    let a = c .before .before .before .args in
-    let l = c .before .loop in
-    let end : l .i ≡ a .d = omega arith in
-    built-end (a .order) (a .n) (a .d) (l .left) (l .w) (subst (λ (k : ℕ). Built (a .order) (a .n) (a .d) k (l .left) (l .w)) end (l .inv .2))
+returns : tie.Need-returns
+returns c = made (c .before)
 
 pub word-spec : {M : Type 1} → statement M
 word-spec =
     tie.close
     (tie.spec
-    Inv-loop
-    μ-loop
-    shl-w
-    sub-w
-    first-number-requires
-    sub-left
-    loop-holds
-    sub-position
-    position-requires
-    add-w
-    shl-w-2
-    add-w-2
-    add-i
-    loop-less
-    loop-again
+    low-count-requires
+    high-digits-requires
+    element-copy-out-wide
+    wide-requires
+    add-result
+    shl-result
+    shr-result
+    add-result-2
     returns)
