@@ -7,6 +7,7 @@ ghost use Rattle.fibonacci.specs.Code.{F, first, codeword};
 ghost use Rattle.fibonacci.specs.Encoding.{rowBits};
 ghost use Rattle.fibonacci.specs.Tables.{Order, tableRow};
 ghost use Rattle.fibonacci.specs.Calls.{accepted, Legal, largest, longest, checkEach};
+ghost use Rattle.codewords.specs.Digits.{lowDigits};
 ghost use Rattle.encoder.specs.Writing.{write, writeInto};
 ghost use Rattle.encoder.specs.Answers.{writeOutcome, measuredOutcome};
 
@@ -36,12 +37,12 @@ struct Word {
 }
 
 // The codeword of n. Writing and appending check the order and the number before.
-fn coded(positions: &[u32; 47], firsts: &[u32; 47], order: usize, n: u64) -> Word
-    requires { ⌜ Order order × (now positions ≡ tableRow (F order)) × (now firsts ≡ tableRow (first order)) × (1 ≤ n) × (n ≤ largest) ⌝ }
+fn coded(positions: &[u32; 47], firsts: &[u32; 47], low: &[u8; 64], order: usize, n: u64) -> Word
+    requires { ⌜ Order order × (now positions ≡ tableRow (F order)) × (now firsts ≡ tableRow (first order)) × (1 ≤ n) × (n ≤ largest) × (now low ≡ lowDigits order) ⌝ }
     ensures { λ r. ⌜ (wordBits (r .len) (r .bits) ≡ codeword order n) × (r .bits < 2 ^ r .len) × (r .len ≡ length (codeword order n)) × (1 ≤ r .len) × (r .len ≤ 47) ⌝ }
 {
     let d = codewords::stem(firsts, order, n);
-    let bits = codewords::word(positions, firsts, order, n, d);
+    let bits = codewords::word(positions, firsts, low, order, n, d);
     let len = d + order;
     Word { bits, len }
 }
@@ -53,13 +54,14 @@ pub fn put_codeword(
     o: usize,
     positions: &[u32; 47],
     firsts: &[u32; 47],
+    low: &[u8; 64],
     order: usize,
     n: u64,
 ) -> usize
-    requires { ⌜ Order order × (now positions ≡ tableRow (F order)) × (now firsts ≡ tableRow (first order)) × (1 ≤ n) × (n ≤ largest) × (o < 8) × (o + length (codeword order n) ≤ 8 * length (now part)) ⌝ }
+    requires { ⌜ Order order × (now positions ≡ tableRow (F order)) × (now firsts ≡ tableRow (first order)) × (1 ≤ n) × (n ≤ largest) × (o < 8) × (o + length (codeword order n) ≤ 8 * length (now part)) × (now low ≡ lowDigits order) ⌝ }
     ensures { λ r. ⌜ (r ≡ length (codeword order n)) × (unpack (now (part .exit)) ≡ putAt o (codeword order n) (unpack (now (part .entry)))) ⌝ }
 {
-    let w = coded(positions, firsts, order, n);
+    let w = coded(positions, firsts, low, order, n);
     bits::put_word(part, o, w.bits, w.len);
     w.len
 }
@@ -87,15 +89,16 @@ fn put_row(
     bytes: usize,
     positions: &[u32; 47],
     firsts: &[u32; 47],
+    low: &[u8; 64],
     order: usize,
     row: &[u32],
 )
-    requires { ⌜ Order order × (now positions ≡ tableRow (F order)) × (now firsts ≡ tableRow (first order)) × (length (now row) ≤ longest) × Legal largest (now row) × (bytes ≡ byteCount (length (rowBits order (now row)))) × (bytes ≤ length (now out)) ⌝ }
+    requires { ⌜ Order order × (now positions ≡ tableRow (F order)) × (now firsts ≡ tableRow (first order)) × (length (now row) ≤ longest) × Legal largest (now row) × (bytes ≡ byteCount (length (rowBits order (now row)))) × (bytes ≤ length (now out)) × (now low ≡ lowDigits order) ⌝ }
     ensures { λ r. ⌜ unpack (now (out .exit)) ≡ putAt 0 (rowBits order (now (row .entry))) (unpack (now (out .entry))) ⌝ }
 {
     let mut at: usize = 0;
     for i in 0..row.len() {
-        let w = coded(positions, firsts, order, fibonacci::wide(row[i]));
+        let w = coded(positions, firsts, low, order, fibonacci::wide(row[i]));
         let k = at / 8;
         if k + 8 <= bytes {
             bits::put_over(&mut out[k..], at % 8, w.bits, w.len);
@@ -126,7 +129,8 @@ pub fn write(order: usize, row: &[u32], out: &mut [u8]) -> WriteAnswer
                 return WriteAnswer::Room;
             }
             let positions = fibonacci::positions(order);
-            put_row(out, bytes, &positions, &firsts, order, row);
+            let low = codewords::low_digits(order);
+            put_row(out, bytes, &positions, &firsts, &low, order, row);
             WriteAnswer::Written { bytes, bits }
         }
     }

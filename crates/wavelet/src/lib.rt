@@ -8,6 +8,7 @@ ghost use Rattle.bits.specs.Bits.{bitOf, unpack, count};
 ghost use Rattle.fibonacci.specs.Code.{F, first};
 ghost use Rattle.fibonacci.specs.Calls.{accepted, isNumber};
 ghost use Rattle.fibonacci.specs.Tables.{Order, tableRow};
+ghost use Rattle.codewords.specs.Digits.{lowDigits};
 ghost use Rattle.wavelet.specs.Questions.{mostAlphabet, checkTree};
 ghost use Rattle.wavelet.specs.Answers.{checkedOutcome};
 ghost use Rattle.wavelet.specs.Walk.{Low, sideOf, Ends, Path, Exact, mostIndex, Root};
@@ -114,12 +115,12 @@ pub fn side(positions: &[u32; 47], order: usize, v: Spot, one: bool) -> Spot
 
 // The codeword of a number of the alphabet from the top of a word: at most 16 bits and the last ones. Building and `asked` check the number before, and
 // every operation its order.
-pub fn path(positions: &[u32; 47], firsts: &[u32; 47], order: usize, n: u64) -> u32
-    requires { ⌜ Order order × (now positions ≡ tableRow (F order)) × (now firsts ≡ tableRow (first order)) × (1 ≤ n) × (n ≤ mostAlphabet) ⌝ }
+pub fn path(positions: &[u32; 47], firsts: &[u32; 47], low: &[u8; 64], order: usize, n: u64) -> u32
+    requires { ⌜ Order order × (now positions ≡ tableRow (F order)) × (now firsts ≡ tableRow (first order)) × (1 ≤ n) × (n ≤ mostAlphabet) × (now low ≡ lowDigits order) ⌝ }
     ensures { λ r. ⌜ Path order n r ⌝ }
 {
     let d = codewords::stem(firsts, order, n);
-    let w = codewords::word(positions, firsts, order, n, d);
+    let w = codewords::word(positions, firsts, low, order, n, d);
     (w << (32 - d - order)) as u32
 }
 
@@ -133,7 +134,8 @@ pub fn asked(positions: &[u32; 47], order: usize, limit: u64, n: u64) -> u32
         return 0;
     }
     let firsts = fibonacci::first_numbers(order);
-    path(positions, &firsts, order, n)
+    let low = codewords::low_digits(order);
+    path(positions, &firsts, &low, order, n)
 }
 
 // The bit after `depth` others in a codeword that stands at the top of a word. The tree is at most 16 deep.

@@ -9,6 +9,7 @@ ghost use Rattle.bits.specs.Bits.{unpack, count};
 ghost use Rattle.fibonacci.specs.Code.{F, first};
 ghost use Rattle.fibonacci.specs.Calls.{accepted, checkEach};
 ghost use Rattle.fibonacci.specs.Tables.{Order, tableRow};
+ghost use Rattle.codewords.specs.Digits.{lowDigits};
 ghost use Rattle.wavelet.specs.Questions.{mostAlphabet, build, buildInto};
 ghost use Rattle.wavelet.specs.Walk.{Low, mostIndex};
 ghost use Rattle.wavelet_build.specs.Building.{buildOutcome, filledOutcome, Paths, bitAfter, parted, room, Spread};
@@ -35,12 +36,13 @@ enum Filled {
 fn fill(
     positions: &[u32; 47],
     firsts: &[u32; 47],
+    low: &[u8; 64],
     order: usize,
     limit: u64,
     row: &[u32],
     words: &mut [u32],
 ) -> Filled
-    requires { ⌜ Order order × (now positions ≡ tableRow (F order)) × (now firsts ≡ tableRow (first order)) × (limit ≤ mostAlphabet) × (length (now row) ≤ length (now words)) ⌝ }
+    requires { ⌜ Order order × (now positions ≡ tableRow (F order)) × (now firsts ≡ tableRow (first order)) × (limit ≤ mostAlphabet) × (length (now row) ≤ length (now words)) × (now low ≡ lowDigits order) ⌝ }
     ensures { λ r. ⌜ (filledOutcome r ≡ checkEach 10 limit 0 (now (row .entry)) (accepted tt)) × (filledOutcome r ≡ accepted tt → Paths order (now (row .entry)) (take (length (now (row .entry))) (now (words .exit)))) ⌝ }
 {
     for i in 0..row.len() {
@@ -48,7 +50,7 @@ fn fill(
         if !fibonacci::is_number(n, limit) {
             return Filled::Fault(i);
         }
-        words[i] = wavelet::path(positions, firsts, order, n);
+        words[i] = wavelet::path(positions, firsts, low, order, n);
     }
     Filled::All
 }
@@ -131,9 +133,10 @@ pub fn build(order: usize, alphabet: u32, row: &[u32], out: &mut [u8]) -> BuildA
         wavelet::Checked::Legal => {
             let positions = fibonacci::positions(order);
             let firsts = fibonacci::first_numbers(order);
+            let low = codewords::low_digits(order);
             let limit = fibonacci::wide(alphabet);
             let mut words: [u32; fibonacci::LONGEST] = [0; fibonacci::LONGEST];
-            let filled = fill(&positions, &firsts, order, limit, row, &mut words);
+            let filled = fill(&positions, &firsts, &low, order, limit, row, &mut words);
             match filled {
                 Filled::Fault(place) => BuildAnswer::Number(place),
                 Filled::All => {

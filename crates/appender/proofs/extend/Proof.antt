@@ -39,6 +39,9 @@ returns c = (λ h. absurd (omega (arith, long (c .before))), λ h. (refl, refl))
 positions-requires : tie.Need-positions-requires
 positions-requires c κs = search needs
 
+low-digits-requires : tie.Need-low-digits-requires
+low-digits-requires c κs = search needs
+
 sub-put-codeword : tie.Need-sub-put-codeword
 sub-put-codeword c = search needs
 
@@ -50,9 +53,17 @@ part-put-codeword-end c = search needs
 
 put-codeword-requires : tie.Need-put-codeword-requires
 put-codeword-requires c κs =
-    let e = c .before .before .before .before in
-    let p = e .before .before .before .before .before .pre in
-    (p .0, c .before .before .before .positions .ensures, e .before .before .before .first-numbers .ensures, p .1, p .2, omega arith, omega (arith, long (e .before), e .if1 .left))
+    let e = c .before .before .before .before .before .before in
+    let p = e .before .before .before .before .before .pre in (
+      p .0,
+      c .before .before .before .before .before .positions .ensures,
+      e .before .before .before .first-numbers .ensures,
+      p .1,
+      p .2,
+      omega arith,
+      omega (arith, long (e .before), e .if1 .left),
+      c .before .before .before .before .low-digits .ensures,
+    )
 
 same-length : tie.Need-same-length
 same-length c = search needs
@@ -60,7 +71,7 @@ same-length c = search needs
 returns-2 : tie.Need-returns-2
 returns-2 c =
     let put = c .before .before .put-codeword in
-    let e = c .before .before .before .before .before .before .before in
+    let e = c .before .before .before .before .before .before .before .before .before in
     let a = e .before .before .before .before .before .args in
     let l = long (e .before) in (
       λ h. (omega arith, put-part (a .buf .now) (put .last .0) (a .bits) (codeword (a .order) (a .n)) (omega (arith, e .if1 .left)) (put .ensures .1)),
@@ -78,6 +89,7 @@ extend-spec =
     add-bytes-3
     returns
     positions-requires
+    low-digits-requires
     sub-put-codeword
     part-put-codeword-start
     part-put-codeword-end

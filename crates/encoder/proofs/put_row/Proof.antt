@@ -15,11 +15,11 @@ use Rattle.encoder.proofs.put_row.Statement.{statement}
 use Rattle.encoder.proofs.put_row.Tie as tie
 
 abbrev Inv-loop : tie.InvT-loop
-Inv-loop out₀ bytes positions firsts order row at₀ i₀ i-end out at i =
+Inv-loop out₀ bytes positions firsts low order row at₀ i₀ i-end out at i =
     (i ≤ i-end) × (i-end ≡ length row) × (length out ≡ length out₀) × Put order row bytes i at (unpack out) (unpack out₀)
 
 abbrev μ-loop : tie.MeasureT-loop
-μ-loop out₀ bytes positions firsts order row at₀ i₀ i-end out at i = i-end - i
+μ-loop out₀ bytes positions firsts low order row at₀ i₀ i-end out at i = i-end - i
 
 -- with the codeword of the number at i
 module _ (c : tie.After-coded Inv-loop μ-loop) where
@@ -71,7 +71,7 @@ coded-requires c κs =
     let p = c .before .before .before .before .before .before .pre in
     let n = c .wide in
     let legal = number-is largest (n .result) (rw (n .ensures) (legal-at largest (a .row .now) (c .before .before .before .loop .i) (p .4) (omega arith))) in
-    (p .0, p .1, p .2, legal .0, legal .1)
+    (p .0, p .1, p .2, legal .0, legal .1, p .7)
 
 add-if1 : tie.Need-add-if1 Inv-loop μ-loop
 add-if1 c = omega (arith, room c)

@@ -58,16 +58,20 @@ returns-3 c =
 positions-requires : tie.Need-positions-requires
 positions-requires c κs = order-is _ (ordered (c .before .before .before .before .before .before .before .before))
 
+low-digits-requires : tie.Need-low-digits-requires
+low-digits-requires c κs = order-is _ (ordered (c .before .before .before .before .before .before .before .before .before))
+
 put-row-requires : tie.Need-put-row-requires
 put-row-requires c κs =
-    let p = passed (c .before .before .before .before .before .before) in (
+    let p = passed (c .before .before .before .before .before .before .before .before) in (
       order-is _ (p .order),
-      c .before .before .before .positions .ensures,
-      c .before .before .before .before .before .before .before .before .before .before .first-numbers .ensures,
+      c .before .before .before .before .before .positions .ensures,
+      c .before .before .before .before .before .before .before .before .before .before .before .before .first-numbers .ensures,
       p .count,
       p .legal,
       ap byteCount (sym (p .long)),
-      c .before .before .before .before .if3 .left,
+      c .before .before .before .before .before .before .if3 .left,
+      c .before .before .before .before .low-digits .ensures,
     )
 
 returns-4 : tie.Need-returns-4
@@ -81,9 +85,9 @@ same-length c = search needs
 
 returns-5 : tie.Need-returns-5
 returns-5 c =
-    let a = c .before .before .before .before .before .before .before .before .before .before .before .before .before .before .before .before .before .before .before .args in
-    write-done (a .order) (a .row .now) (a .out .now) _ (passed (c .before .before .before .before .before .before .before .before .before)) _ (c .before .before .before .before .before .before .before .if3 .left)
-    (λ i. c .before .before .before .before .before .before .before .before .before .before .before .before .before .before .before .before .before .slice-known .given i .fits) (λ i. c .slice-known2 .given i .fits) (c .before .before .put-row .ensures)
+    let a = c .before .before .before .before .before .before .before .before .before .before .before .before .before .before .before .before .before .before .before .before .before .args in
+    write-done (a .order) (a .row .now) (a .out .now) _ (passed (c .before .before .before .before .before .before .before .before .before .before .before)) _ (c .before .before .before .before .before .before .before .before .before .if3 .left)
+    (λ i. c .before .before .before .before .before .before .before .before .before .before .before .before .before .before .before .before .before .before .before .slice-known .given i .fits) (λ i. c .slice-known2 .given i .fits) (c .before .before .put-row .ensures)
 
 pub write-spec : {M : Type 1} → statement M
 write-spec =
@@ -99,6 +103,7 @@ write-spec =
     add-bytes
     returns-3
     positions-requires
+    low-digits-requires
     put-row-requires
     returns-4
     same-length

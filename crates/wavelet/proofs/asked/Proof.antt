@@ -16,16 +16,19 @@ returns c e = absurd (true≢false (sym e ∙ sym (c .before .is-number .ensures
 first-numbers-requires : tie.Need-first-numbers-requires
 first-numbers-requires c κs = search needs
 
+low-digits-requires : tie.Need-low-digits-requires
+low-digits-requires c κs = search needs
+
 path-requires : tie.Need-path-requires
 path-requires c κs =
-    let y = c .before .before in
+    let y = c .before .before .before .before in
     let p = y .before .before .pre in
     let n = number-is _ _ (sym (y .before .is-number .ensures) ∙ not-false _ (y .if1 .left)) in
-    (p .0, p .1, c .before .first-numbers .ensures, n .0, omega (arith, n .1, p .2))
+    (p .0, p .1, c .before .before .before .first-numbers .ensures, n .0, omega (arith, n .1, p .2), c .before .before .low-digits .ensures)
 
 returns-2 : tie.Need-returns-2
 returns-2 c = search needs
 
 pub asked-spec : {M : Type 1} → statement M
 asked-spec =
-    tie.close (tie.spec is-number-requires returns first-numbers-requires path-requires returns-2)
+    tie.close (tie.spec is-number-requires returns first-numbers-requires low-digits-requires path-requires returns-2)

@@ -18,7 +18,7 @@ use Rattle.wavelet_build.proofs.build.Tie as tie
 
 -- where the walk through the code stands: the tree's check is passed, the words are filled, each number's check is passed
 abbrev tree-at : tie.After-fill → tie.After-enum-told
-tree-at c = c .before .before .before .before .before .before .before
+tree-at c = c .before .before .before .before .before .before .before .before .before
 
 abbrev start-of : tie.After-fill → tie.Start
 start-of c = tree-at c .before .before .before .before .before
@@ -37,7 +37,7 @@ passed c = tree-passed _ _ _ (sym (c .before .before .check .ensures) ∙ ap che
 checked : (c : tie.After-fill) → let a = start-of c .args in filledOutcome (c .fill .result) ≡ checkEach 10 (a .alphabet) 0 (a .row .now) legal
 checked c =
     let a = start-of c .args in
-    c .fill .ensures .0 ∙ ap (λ (n : ℕ). checkEach 10 n 0 (a .row .now) legal) (c .before .before .before .before .wide .ensures)
+    c .fill .ensures .0 ∙ ap (λ (n : ℕ). checkEach 10 n 0 (a .row .now) legal) (c .before .before .before .before .before .wide .ensures)
 
 -- each number is legal, and the words have their codewords
 numbers : (c : tie.After-enum-told2) → let a = start-of (fill-at c) .args in Legal (a .alphabet) (a .row .now)
@@ -49,7 +49,7 @@ numbers c =
 paths : (c : tie.After-enum-told2)
     → let f = fill-at c in
     let a = start-of f .args in
-    Paths (a .order) (a .row .now) (take (length (a .row .now)) (f .fill .last .1 .1 .1 .1 .1 .0))
+    Paths (a .order) (a .row .now) (take (length (a .row .now)) (f .fill .last .1 .1 .1 .1 .1 .1 .0))
 paths c = fill-at c .fill .ensures .1 (ap filledOutcome (c .enum-told2 .given .1))
 
 -- the bitmaps are written
@@ -63,14 +63,14 @@ built c =
     let a = start-of f .args in
     let u = c .before .before .before .before .root in
     root-spread (a .order) (a .alphabet) (a .row .now) (passed (tree-at f)) (numbers e) (u .result) (u .ensures) _ _ _ _ _
-    (f .before .before .before .before .wide .ensures) (paths e) (c .spread .ensures .1)
+    (f .before .before .before .before .before .wide .ensures) (paths e) (c .spread .ensures .1)
 
 -- they are few
 few : (c : tie.After-spread) → c .spread .result ≤ 8 * mostIndex
 few c =
     let f = fill-at (numbers-at c) in
     let k = length (start-of f .args .row .now) in
-    let xs = f .fill .last .1 .1 .1 .1 .1 .0 in
+    let xs = f .fill .last .1 .1 .1 .1 .1 .1 .0 in
     let u = c .before .before .before .before .root in
     omega (arith, passed (tree-at f) .count, c .spread .ensures .0, root-room (u .result) (length (take k xs)) (u .ensures), length-take k xs)
 
@@ -89,6 +89,9 @@ positions-requires c κs = legal-order (passed c)
 first-numbers-requires : tie.Need-first-numbers-requires
 first-numbers-requires c κs = legal-order (passed (c .before))
 
+low-digits-requires : tie.Need-low-digits-requires
+low-digits-requires c κs = legal-order (passed (c .before .before))
+
 wide-requires : tie.Need-wide-requires
 wide-requires c κs = search needs
 
@@ -97,12 +100,13 @@ slice-aggregate-fill c = search needs
 
 fill-requires : tie.Need-fill-requires
 fill-requires c κs =
-    let p = passed (c .before .before .before .before .before .before) in (
+    let p = passed (c .before .before .before .before .before .before .before .before) in (
       legal-order p,
-      c .before .before .before .before .before .positions .ensures,
-      c .before .before .before .before .first-numbers .ensures,
-      omega (arith, c .before .before .before .wide .ensures, legal-alphabet p .1),
+      c .before .before .before .before .before .before .before .positions .ensures,
+      c .before .before .before .before .before .before .first-numbers .ensures,
+      omega (arith, c .before .before .before .before .wide .ensures, legal-alphabet p .1),
       p .count,
+      c .before .before .before .before .before .low-digits .ensures,
     )
 
 enum-known-filled : tie.Need-enum-known-filled
@@ -117,12 +121,12 @@ root-requires c κs = search needs
 array-borrow-prefix-words : tie.Need-array-borrow-prefix-words
 array-borrow-prefix-words c =
     let f = c .before .before .before .before .before in
-    omega (arith, passed (tree-at f) .count, f .fill .kept .1 .1 .1 .1 .1 .0)
+    omega (arith, passed (tree-at f) .count, f .fill .kept .1 .1 .1 .1 .1 .1 .0)
 
 slice-aggregate-spread : tie.Need-slice-aggregate-spread
 slice-aggregate-spread c =
     let f = c .before .before .before .before .before .before in
-    sym (length-take-le _ _ (omega (arith, passed (tree-at f) .count, f .fill .kept .1 .1 .1 .1 .1 .0)))
+    sym (length-take-le _ _ (omega (arith, passed (tree-at f) .count, f .fill .kept .1 .1 .1 .1 .1 .1 .0)))
 
 slice-aggregate-spread-2 : tie.Need-slice-aggregate-spread-2
 slice-aggregate-spread-2 c = search needs
@@ -136,10 +140,10 @@ spread-requires c κs =
     let p = passed (tree-at f) in
     let u = c .before .before .before .root in
     let k = length (start-of f .args .row .now) in
-    let xs = f .fill .last .1 .1 .1 .1 .1 .0 in (
+    let xs = f .fill .last .1 .1 .1 .1 .1 .1 .0 in (
       legal-order p,
-      f .before .before .before .before .before .before .positions .ensures,
-      omega (arith, f .before .before .before .before .wide .ensures, legal-alphabet p .1),
+      f .before .before .before .before .before .before .before .before .positions .ensures,
+      omega (arith, f .before .before .before .before .before .wide .ensures, legal-alphabet p .1),
       low-root p (u .ensures),
       omega (arith, p .count, length-take k xs),
       omega (arith, p .count, length-take k xs, root-room (u .result) (length (take k xs)) (u .ensures)),
@@ -200,6 +204,7 @@ build-spec =
     enum-told
     positions-requires
     first-numbers-requires
+    low-digits-requires
     wide-requires
     slice-aggregate-fill
     fill-requires

@@ -10,11 +10,11 @@ use Rattle.wavelet_build.proofs.fill.Statement.{statement}
 use Rattle.wavelet_build.proofs.fill.Tie as tie
 
 abbrev Inv-loop : tie.InvT-loop
-Inv-loop positions firsts order limit row words₀ i₀ i-end words i =
+Inv-loop positions firsts low order limit row words₀ i₀ i-end words i =
     (i ≤ i-end) × (i-end ≡ length row) × (length words ≡ length words₀) × Filling order limit row i words
 
 abbrev μ-loop : tie.MeasureT-loop
-μ-loop positions firsts order limit row words₀ i₀ i-end words i = i-end - i
+μ-loop positions firsts low order limit row words₀ i₀ i-end words i = i-end - i
 
 loop-holds : tie.Need-loop-holds Inv-loop μ-loop
 loop-holds c = (omega arith, refl, refl, let a = c .before .before .args in filling-none (a .order) (a .limit) (a .row .now) (a .words .now))
@@ -45,7 +45,7 @@ path-requires : tie.Need-path-requires Inv-loop μ-loop
 path-requires c κs =
     let p = c .before .before .before .before .before .before .before .before .pre in
     let n = number-is _ _ (sym (c .before .is-number .ensures) ∙ not-false _ (c .if1 .left)) in
-    (p .0, p .1, p .2, n .0, omega (arith, p .3, n .1))
+    (p .0, p .1, p .2, n .0, omega (arith, p .3, n .1), p .5)
 
 mul-words : tie.Need-mul-words Inv-loop μ-loop
 mul-words c = omega arith
