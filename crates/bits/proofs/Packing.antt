@@ -57,7 +57,7 @@ pack-length b = bytes-length (byteCount (length b)) b
 -- ## Unpacking what was packed
 
 -- the bits of a number are those that made it
-bits-of-word : (n : ℕ) (b : List Bool) → wordBits n (wordOf n b) ≡ fit n b
+pub bits-of-word : (n : ℕ) (b : List Bool) → wordBits n (wordOf n b) ≡ fit n b
 unfolding fit wordOf
 bits-of-word zero b = words-zero 0
 bits-of-word (suc n) [] = words-zero (suc n) ∙ sym (fit-nil (suc n))

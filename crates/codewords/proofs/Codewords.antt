@@ -2,7 +2,7 @@
 use mathlib.Core.Logic.{_⊎_, ⊎-elim}
 use mathlib.Core.Path.{_≡_, refl, sym, ap, ap₂, _∙_}
 use mathlib.Core.Bool.{Bool, true, false, _&&_}
-use mathlib.Core.List.{List, [], _∷_, _++_}
+use mathlib.Core.List.{List, [], _∷_, _++_, append-nil}
 use Prim.Native.Nat.{ℕ, zero, suc, _+_, _-_, _*_, _/_, _%_, _^_, _≤_, _<_, min}
 use native.Mathlib.Omega.{arith}
 use native.Mathlib.Nat.{add-zero, zero-add, zero-mul, suc-add, two-pow-succ}
@@ -15,7 +15,7 @@ use lib.Pow.{pow-pos, pow-mono, pow-add, shl-exact, shl-shr, ones-lt}
 use borrow.Author.Tests.{le-leb, lt-leb, leb-true}
 use Rattle.bits.specs.Bits.{worth, wordBits, wordOf}
 use Rattle.bits.proofs.Words.{words-cons, words-join, words-zero}
-use Rattle.bits.proofs.Packing.{word-below}
+use Rattle.bits.proofs.Packing.{fit, fit-long, bits-of-word, word-below}
 use Rattle.fibonacci.specs.Code.{valuesFrom, past, F, ones, first, size, digits, codeword}
 use Rattle.fibonacci.specs.Calls.{largest}
 use Rattle.fibonacci.specs.Tables.{Order, bounded}
@@ -211,9 +211,7 @@ module _ (m n d j left w f : ℕ) (p : 1 ≤ m) (h : 1 ≤ j) (g : j ≤ d) (q :
 
 -- the bits of a word are those that made it
 word-back : (b : List Bool) → wordBits (length b) (wordOf (length b) b) ≡ b
-unfolding wordBits wordOf
-word-back [] = refl
-word-back (a ∷ b) = words-cons a (length b) (wordOf (length b) b) (word-below (length b) b) ∙ ap (λ (l : List Bool). a ∷ l) (word-back b)
+word-back b = bits-of-word (length b) b ∙ ap (λ (k : ℕ). fit k b) (sym (add-zero (length b))) ∙ fit-long b 0 ∙ append-nil b
 
 -- zeros at the end of a word shift it
 zeros-word : (k : ℕ) → wordOf k (replicate k false) ≡ 0
