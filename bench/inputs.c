@@ -143,7 +143,8 @@ static void add(struct input *in, size_t order, enum kind kind, size_t count)
 
 void pool_fill(struct pool *p, size_t order, enum kind kind, size_t count)
 {
-    p->n = kind == TO_256 || kind == INDEXED ? 64 : 4 * 4096 / count;
+    p->part = kind == TO_256 || kind == INDEXED ? 8 : 4096 / count;
+    p->n = 8 * p->part;
     if (p->n > POOL_MOST)
         p->n = POOL_MOST;
     for (size_t k = 0; k < p->n; k++)

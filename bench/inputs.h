@@ -42,14 +42,15 @@ struct input {
     struct sdsl_row *peer; /* SDSL's row and trees, in order 2 */
 };
 
-#define POOL_MOST 2048
+#define POOL_MOST 8192
 
+/* The inputs of a group, in parts that are timed each by itself. */
 struct pool {
-    size_t n;
+    size_t n, part;
     struct input in[POOL_MOST];
 };
 
-/* Fills a pool with inputs of a kind, so many as make a few thousand numbers. */
+/* Fills a pool with inputs of a kind: eight parts of 4,096 numbers, or, for the index, of eight rows. */
 void pool_fill(struct pool *p, size_t order, enum kind kind, size_t count);
 void pool_free(struct pool *p);
 

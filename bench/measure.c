@@ -6,7 +6,8 @@
 #include <time.h>
 
 #define ROUNDS 40
-#define LEAST_NS 200000.0 /* a single measurement goes over the inputs until so much time has passed */
+#define PARTS_MOST 8
+#define LEAST_NS 20000.0 /* a part is gone over until so much time has passed */
 
 static double now(void)
 {
@@ -16,15 +17,15 @@ static double now(void)
     return 1e9 * t.tv_sec + t.tv_nsec;
 }
 
-/* Nanoseconds a call, over so many passes of the inputs. */
-static double once(struct pool *p, enum side s, size_t passes)
+/* Nanoseconds for one pass over the inputs from `from` up to but without `to`. */
+static double once(struct pool *p, enum side s, size_t from, size_t to, size_t passes)
 {
     double start = now();
 
     for (size_t k = 0; k < passes; k++)
-        for (size_t i = 0; i < p->n; i++)
+        for (size_t i = from; i < to; i++)
             calls[s].run(&p->in[i]);
-    return (now() - start) / (passes * p->n);
+    return (now() - start) / passes;
 }
 
 /* The refusal that a kind has to get, 0 for none. */
@@ -45,19 +46,31 @@ static void check(struct pool *p, enum side s, enum kind kind)
     }
 }
 
+/* A side's time on a part, where it is better than before. */
+static void better(struct pool *p, enum side s, size_t part, size_t passes, double *best)
+{
+    double ns = once(p, s, part * p->part, (part + 1) * p->part, passes);
+
+    if (*best == 0 || ns < *best)
+        *best = ns;
+}
+
+/* The sides take turns part by part, each at another part than the one before it, which would else make the next one's branches known. */
 void measure(struct pool *p, const enum side *sides, size_t n, struct times *t)
 {
-    size_t passes[SIDES];
+    double best[SIDES][PARTS_MOST] = {{0}};
+    size_t passes[SIDES], parts = p->n / p->part;
 
-    for (size_t k = 0; k < n; k++) {
-        check(p, sides[k], t->kind);
-        t->ns[sides[k]] = once(p, sides[k], 1);
-        passes[k] = 1 + (size_t)(LEAST_NS / (t->ns[sides[k]] * p->n));
+    for (size_t i = 0; i < n; i++) {
+        check(p, sides[i], t->kind);
+        passes[i] = 1 + (size_t)(LEAST_NS / once(p, sides[i], 0, p->part, 1));
     }
-    for (int round = 0; round < ROUNDS; round++)
-        for (size_t k = 0; k < n; k++) {
-            double ns = once(p, sides[k], passes[k]);
-            if (ns < t->ns[sides[k]])
-                t->ns[sides[k]] = ns;
+    for (size_t turn = 0; turn < ROUNDS * parts; turn++)
+        for (size_t i = 0; i < n; i++) {
+            size_t part = (turn + i) % parts;
+            better(p, sides[i], part, passes[i], &best[i][part]);
         }
+    for (size_t i = 0; i < n; i++)
+        for (size_t k = 0; k < parts; k++)
+            t->ns[sides[i]] += best[i][k] / p->n;
 }

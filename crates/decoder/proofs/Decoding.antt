@@ -1,15 +1,19 @@
 -- When an encoding is read and what then is known of it; the answers by what a scan found.
 use mathlib.Core.Path.{_≡_, refl, sym, ap, ap₂, _∙_}
 use mathlib.Core.Bool.{Bool, true, false, not}
-use mathlib.Core.List.{List, [], _∷_, _++_}
-use Prim.Native.Nat.{ℕ, suc, _+_, _≤_, _<_}
+use mathlib.Core.List.{List, [], _∷_, _++_, flatten}
+use Prim.Native.Nat.{ℕ, suc, _+_, _-_, _*_, _≤_, _<_}
 use native.Mathlib.Omega.{arith}
 use lib.Dec.{leb, ltb}
-use lib.ListN.{length, take, drop}
+use lib.ListN.{length, take, drop, length-append, length-replicate}
 use lib.Seq.{sets, sets-eq, length-sets, take-append-seam}
 use borrow.Author.Tests.{lt-ltb, le-ltb, ltb-false, leb-false, not-false}
 use Rattle.bits.specs.Bits.{unpack, count}
-use Rattle.fibonacci.specs.Encoding.{rest, parse, numbers}
+use Rattle.bits.proofs.Bytes.{unpack-length}
+use Rattle.fibonacci.specs.Code.{ones, first, size, codeword}
+use Rattle.fibonacci.specs.Encoding.{rowBits, rest, parse, numbers}
+use Rattle.fibonacci.proofs.Numeration.{digits-length}
+use Rattle.fibonacci.proofs.Rows.{numbers-bits}
 use Rattle.fibonacci.specs.Tables.{Order}
 use Rattle.fibonacci.specs.Calls.{Outcome, accepted, refused, andThen, isOrder, isNumber, Legal, largest, longest, mostBytes}
 use Rattle.fibonacci.proofs.Checks.{order-is, is-order, check-passed, then-passed, not-both, accepted-one, refused-same}
@@ -77,6 +81,32 @@ decode-is m s row e =
       zeros = omega (arith, leb-false 1 (count true r) (p6' .0));
     }
 
+-- no codeword is shorter than two bits
+bits-least : (m : ℕ) (row : List ℕ) → 2 ≤ m → 2 * length row ≤ length (rowBits m row)
+unfolding rowBits flatten codeword
+bits-least m [] h = omega arith
+bits-least m (n ∷ row) h =
+    omega (
+      arith,
+      length-append (codeword m n) (rowBits m row),
+      digits-length m (size m n n 0) (n - first m (size m n n 0)) (ones m),
+      length-replicate m true,
+      bits-least m row h,
+    )
+
+pub decode-few : (m : ℕ) (s row : List ℕ) → Decoded m s row → length row ≤ 4 * length s
+decode-few m s row d =
+    let whole : rowBits m (numbers m (unpack s)) ++ rest (parse m (unpack s)) ≡ unpack s = numbers-bits m (unpack s) (omega (arith, d .order)) in
+    let bits : rowBits m row ≡ rowBits m (numbers m (unpack s)) = ap (rowBits m) (d .is) in
+    omega (
+      arith,
+      bits-least m row (omega (arith, d .order)),
+      ap length bits,
+      ap length whole,
+      length-append (rowBits m (numbers m (unpack s))) (rest (parse m (unpack s))),
+      unpack-length s,
+    )
+
 pub decode-accepts : (m : ℕ) (s row : List ℕ) → Decoded m s row → decode m s ≡ accepted row
 unfolding contents
 decode-accepts m s row d =
@@ -101,7 +131,7 @@ scan-refused m from to (refused n p) x t e = sym (refused-same (ap scanOutcome (
 pub stored-row : (d : Outcome (List ℕ)) (before after row : List ℕ) → Stored d before after → d ≡ accepted row → length row ≤ length before
     → (take (length row) after ≡ row) × (length after ≡ length before)
 stored-row d before after row st e h =
-    let st' : after ≡ sets before 0 row = rw e at st in
+    let st' : after ≡ sets before 0 row = (rw e at st) h in
     let at : after ≡ row ++ drop (0 + length row) before = st' ∙ sets-eq row before 0 (omega arith) in
     (ap (take (length row)) at ∙ take-append-seam row (drop (0 + length row) before), ap length st' ∙ length-sets before 0 row)
 

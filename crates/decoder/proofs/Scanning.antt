@@ -2,12 +2,12 @@
 use mathlib.Core.Path.{_≡_, refl, sym, ap, _∙_}
 use mathlib.Core.Bool.{Bool, true, false}
 use mathlib.Core.List.{List, [], _∷_, _++_, append-assoc, map, map-append}
-use Prim.Native.Nat.{ℕ, suc, _+_, _*_, _-_, _≤_, _<_}
+use Prim.Native.Nat.{ℕ, suc, _+_, _*_, _-_, _≤_, _<_, min}
 use native.Mathlib.Omega.{arith}
 use native.Mathlib.Nat.{add-zero}
 use native.Mathlib.Decide.{decLe}
-use lib.ListN.{length, getD, take, drop, set, length-append, length-take, length-replicate, drop-of-length-le, length-map}
-use lib.Seq.{sets, length-sets, slice, take-nil, drop-nil, take-all, take-append-le, drop-append-le}
+use lib.ListN.{length, getD, take, drop, set, length-append, length-set, length-take, length-replicate, drop-of-length-le, length-map}
+use lib.Seq.{sets, slice, take-nil, drop-nil, take-all, take-append-le, drop-append-le}
 use Rattle.bits.specs.Bits.{count}
 use Rattle.fibonacci.specs.Code.{sum, ones, value, first, number}
 use Rattle.fibonacci.specs.Encoding.{rowBits, parsed, codewords, rest, parse, numbers}
@@ -83,7 +83,8 @@ pub record Walked (m limit from to : ℕ) (b : List Bool) (row₀ : List ℕ) (k
   pub many : length words ≡ count
   pub most : count ≤ longest
   pub legal : Legal limit (map (number m) words)
-  pub stored : row ≡ sets row₀ 0 (map (number m) words)
+  pub sized : length row ≡ length row₀
+  pub stored : count ≤ length row₀ → row ≡ sets row₀ 0 (map (number m) words)
   pub summed : total ≡ sum (slice from to (map (number m) words))
   pub little : total ≤ largest * count
   pub long : length stem ≡ len
@@ -101,7 +102,8 @@ walked-start m limit from to b row₀ p =
       many = refl;
       most = omega arith;
       legal = tt;
-      stored = refl;
+      sized = refl;
+      stored = λ h. refl;
       summed = ap sum (sym (ap (drop from) (take-nil to) ∙ drop-nil from));
       little = omega arith;
       long = refl;
@@ -123,9 +125,6 @@ module _ {m limit from to : ℕ} {b : List Bool} {row₀ : List ℕ} {k : ℕ} {
   done-long : length (map (number m) (w .words)) ≡ count
   done-long = length-map (w .words) (number m) ∙ w .many
 
-  pub walked-length : length row ≡ length row₀
-  walked-length = ap length (w .stored) ∙ length-sets row₀ 0 (map (number m) (w .words))
-
   module _ (h : k < length b) where
     pub walked-zero : (x : ℕ) → getD b k false ≡ false → (first m (len + run + 1) ≤ largest → x ≡ value m (len + 1) (ones run)) → x ≤ largest
         → Walked m limit from to b row₀ (k + 1) row count total (len + (run + 1)) (val + x) 0
@@ -137,6 +136,7 @@ module _ {m limit from to : ℕ} {b : List Bool} {row₀ : List ℕ} {k : ℕ} {
           many = w .many;
           most = w .most;
           legal = w .legal;
+          sized = w .sized;
           stored = w .stored;
           summed = w .summed;
           little = w .little;
@@ -159,6 +159,7 @@ module _ {m limit from to : ℕ} {b : List Bool} {row₀ : List ℕ} {k : ℕ} {
           many = w .many;
           most = w .most;
           legal = w .legal;
+          sized = w .sized;
           stored = w .stored;
           summed = w .summed;
           little = w .little;
@@ -193,7 +194,7 @@ module _ {m limit from to : ℕ} {b : List Bool} {row₀ : List ℕ} {k : ℕ} {
 
         pub walked-full : (total' : ℕ) → (count ≡ longest → ⊥) → limit ≤ largest → isNumber limit n ≡ true
             → (from ≤ count → count < to → total' ≡ total + n) → (count < from → total' ≡ total) → (to ≤ count → total' ≡ total)
-            → Walked m limit from to b row₀ (k + 1) (set row count n) (count + 1) total' 0 0 0
+            → Walked m limit from to b row₀ (k + 1) (set row (min count (length row - 1)) n) (count + 1) total' 0 0 0
         walked-full total' less top l inside before after =
             let done : List ℕ = map (number m) (w .words) in
             let same : n ≡ number m ended = numbered-legal m len val n is (number m ended) ended-near ended-far limit top l in
@@ -209,7 +210,10 @@ module _ {m limit from to : ℕ} {b : List Bool} {row₀ : List ℕ} {k : ℕ} {
               many = omega (arith, length-append (w .words) (ended ∷ []), w .many);
               most = omega (arith, w .most);
               legal = rw ns (all-append (λ n. isNumber limit n ≡ true) done (n ∷ []) (w .legal) (l, tt));
-              stored = rw (ns, sets-snoc row₀ 0 done n, at, ← w .stored) refl;
+              sized = length-set row (min count (length row - 1)) n ∙ w .sized;
+              stored = λ h.
+                  let place : min count (length row - 1) ≡ count = omega (arith, w .sized) in
+                  rw (place, ns, sets-snoc row₀ 0 done n, at, ← w .stored (omega arith)) refl;
               summed = rw ns (more .0);
               little = omega (arith, more .1, w .little, number-is limit n l);
               long = refl;
@@ -236,6 +240,9 @@ module _ {m limit from to : ℕ} {b : List Bool} {row₀ : List ℕ} {k : ℕ} {
 
     far : 8 ≤ len → 8 ≤ length (w .stem)
     far l = omega (arith, w .long)
+
+    pub walked-stored : length done ≤ length row₀ → row ≡ sets row₀ 0 done
+    walked-stored h = w .stored (omega (arith, done-long))
 
     pub walked-padding : Padding len val run ≡ true → contents limit m b ≡ accepted done
     walked-padding e =

@@ -1,7 +1,7 @@
 -- The answers of the functions as paper 01's numbers and values, and what the scan that they share finds.
 use mathlib.Core.Path.{_≡_}
 use mathlib.Core.List.{List}
-use Prim.Native.Nat.{ℕ}
+use Prim.Native.Nat.{ℕ, _≤_}
 use lib.ListN.{length}
 use lib.Seq.{sets, slice}
 use Rattle.fibonacci.specs.Code.{sum}
@@ -46,7 +46,7 @@ scanOutcome (scan.Refused r) = refusal r
 abbrev pub found : ℕ → ℕ → ℕ → List ℕ → Found
 found m from to row = record { count = length row; bits = length (rowBits m row); total = sum (slice from to row) }
 
--- The list of a scan of one's own after it: where the scan accepts, the row from its start on, as far as there is room
+-- The list of a scan of one's own after it: where the scan accepts and the list has room for the row, the row from its start on
 abbrev pub Stored : Outcome (List ℕ) → List ℕ → List ℕ → Type 0
-Stored (accepted row) before after = after ≡ sets before 0 row
+Stored (accepted row) before after = length row ≤ length before → after ≡ sets before 0 row
 Stored (refused number place) before after = Unit {0}

@@ -2,13 +2,13 @@
 ghost use mathlib.Core.Path.{_≡_};
 ghost use mathlib.Core.Bool.{_&&_};
 ghost use mathlib.Core.List.{_++_};
-ghost use Prim.Native.Nat.{_+_, _^_, _≤_, _<_};
+ghost use Prim.Native.Nat.{_+_, _-_, _*_, _^_, _≤_, _<_, min};
 ghost use lib.Dec.{eqb, ltb};
 ghost use lib.ListN.{length, take, drop, set};
 ghost use Rattle.bits.specs.Bits.{unpack};
 ghost use Rattle.fibonacci.specs.Code.{ones, value, first};
 ghost use Rattle.fibonacci.specs.Tables.{Order, tableRow};
-ghost use Rattle.fibonacci.specs.Calls.{accepted, andThen, largest};
+ghost use Rattle.fibonacci.specs.Calls.{accepted, andThen, largest, longest};
 ghost use Rattle.decoder.specs.Reading.{contents, decode};
 ghost use Rattle.decoder.specs.Answers.{ReadPromise, scanOutcome, found, Stored};
 
@@ -72,14 +72,14 @@ pub fn number(firsts: &[u32; 47], order: usize, len: usize, val: u64) -> u64
     if least == 0 { 0 } else { least + val }
 }
 
-// Element i becomes n; where i is past the end, nothing changes.
+// Element i becomes n; where i is past the end, the last one does. So a scan that wants no row takes the same branches as one that does, and saves the list.
 fn store(row: &mut [u32], i: usize, n: u64)
-    requires { ⌜ n ≤ largest ⌝ }
-    ensures { λ r. ⌜ now (row .exit) ≡ set (now (row .entry)) i n ⌝ }
+    requires { ⌜ (n ≤ largest) × (1 ≤ length (now row)) ⌝ }
+    ensures { λ r. ⌜ now (row .exit) ≡ set (now (row .entry)) (min i (length (now (row .entry)) - 1)) n ⌝ }
 {
-    if i < row.len() {
-        row[i] = n as u32;
-    }
+    let last = row.len() - 1;
+    let place = if i < last { i } else { last };
+    row[place] = n as u32;
 }
 
 // A sum with the number n of place i, which counts where the place is one of those asked for.
@@ -101,7 +101,7 @@ pub fn is_padding(len: usize, val: u64, run: usize) -> bool
 }
 
 // The scan after the checks of order and length, bit by bit. Pending are `len` bits, the last of them a zero, whose value is `val`, and then `run` ones. The
-// numbers go up to a limit, and the row is stored as far as there is room.
+// numbers go up to a limit. The row is stored; where the list is too short for it, the list is of no use then.
 fn walk(
     firsts: &[u32; 47],
     order: usize,
@@ -111,7 +111,7 @@ fn walk(
     to: usize,
     row: &mut [u32],
 ) -> ScanAnswer
-    requires { ⌜ Order order × (now firsts ≡ tableRow (first order)) × (length (now s) < 2 ^ 28) × (limit ≤ largest) ⌝ }
+    requires { ⌜ Order order × (now firsts ≡ tableRow (first order)) × (length (now s) < 2 ^ 28) × (limit ≤ largest) × (1 ≤ length (now row)) ⌝ }
     ensures { λ r. ⌜ (scanOutcome r ≡ andThen (contents limit order (unpack (now (s .entry)))) (λ row. accepted (found order from to row))) × Stored (contents limit order (unpack (now (s .entry)))) (now (row .entry)) (now (row .exit)) ⌝ }
 {
     let end = 8 * s.len();
@@ -156,6 +156,7 @@ fn walk(
 
 // The scan of an encoding: its checks, and what it finds. The row goes to a list of the caller's own.
 fn scan_into(order: usize, s: &[u8], from: usize, to: usize, row: &mut [u32]) -> ScanAnswer
+    requires { ⌜ 1 ≤ length (now row) ⌝ }
     ensures { λ r. ⌜ (scanOutcome r ≡ andThen (decode order (now (s .entry))) (λ row. accepted (found order from to row))) × Stored (decode order (now (s .entry))) (now (row .entry)) (now (row .exit)) ⌝ }
 {
     if !fibonacci::is_order(order) {
@@ -176,21 +177,34 @@ pub fn scan(order: usize, s: &[u8], from: usize, to: usize) -> ScanAnswer
     scan_into(order, s, from, to, &mut row)
 }
 
-// Reads an encoding. The row goes to a list of its own first, as a refusal must leave the output as it was.
-pub fn read(order: usize, s: &[u8], out: &mut [u32]) -> ReadAnswer
+// Reads an encoding by way of a list that `read` lends, with room for every row that so many bytes can hold.
+fn read_by(order: usize, s: &[u8], out: &mut [u32], row: &mut [u32]) -> ReadAnswer
+    requires { ⌜ (1 ≤ length (now row)) × (min longest (4 * length (now s)) ≤ length (now row)) ⌝ }
     ensures { λ r. ⌜ ReadPromise order (now (s .entry)) (now (out .entry)) r (now (out .exit)) ⌝ }
 {
-    let mut row: [u32; fibonacci::LONGEST] = [0; fibonacci::LONGEST];
-    let scanned = scan_into(order, s, 0, 0, &mut row);
+    let scanned = scan_into(order, s, 0, 0, row);
     match scanned {
         ScanAnswer::Row(f) => {
             let count = f.count;
             if out.len() < count {
                 return ReadAnswer::Room;
             }
-            lists::copy(out, &row, count);
+            lists::copy(out, row, count);
             ReadAnswer::Row(count)
         }
         ScanAnswer::Refused(r) => ReadAnswer::Refused(r),
     }
+}
+
+// Reads an encoding. The row goes to a list of its own first, as a refusal must leave the output as it was. No codeword is shorter than two bits, so a few
+// bytes need a short list only; a long one of zeros takes longer to make than they take to read.
+pub fn read(order: usize, s: &[u8], out: &mut [u32]) -> ReadAnswer
+    ensures { λ r. ⌜ ReadPromise order (now (s .entry)) (now (out .entry)) r (now (out .exit)) ⌝ }
+{
+    if s.len() <= 16 {
+        let mut few: [u32; 64] = [0; 64];
+        return read_by(order, s, out, &mut few);
+    }
+    let mut row: [u32; fibonacci::LONGEST] = [0; fibonacci::LONGEST];
+    read_by(order, s, out, &mut row)
 }

@@ -1,94 +1,41 @@
-use mathlib.Core.Path.{_≡_, ap, _∙_}
-use mathlib.Core.List.{List, _++_}
-use Prim.Native.Nat.{ℕ, _≤_}
 use native.Mathlib.Omega.{arith}
-use lib.ListN.{length, take, drop, replicate}
-use Rattle.fibonacci.specs.Calls.{accepted}
-use Rattle.decoder.specs.declared.Found.{Found}
-use Rattle.decoder.specs.Reading.{decode}
-use Rattle.decoder.specs.Answers.{refusal, found}
-use Rattle.decoder.proofs.Decoding.{decode-is, stored-row, scan-row, scan-refused, read-row, read-room, read-refused}
 use borrow.Author.Needs.{needs}
 use Rattle.decoder.proofs.read.Statement.{statement}
 use Rattle.decoder.proofs.read.Tie as tie
 
--- the row that the scan found
-row-of : (c : tie.After-scanned)
-    → let a = c .before .before .before .before .before .before .before .args in
-    (row : List ℕ) × (decode (a .order) (a .s .now) ≡ accepted row) × (c .scanned .given .0 .0 ≡ found (a .order) 0 0 row)
-row-of c =
-    let a = c .before .before .before .before .before .before .before .args in
-    scan-row (a .order) 0 0 _ _ (c .scanned .given .1) (c .before .before .before .scan-into .ensures .0)
+slice-aggregate-read-by : tie.Need-slice-aggregate-read-by
+slice-aggregate-read-by c = search needs
 
--- the list that was lent to it holds that row
-held : (c : tie.After-scanned) → (take (length (row-of c .0)) (c .before .before .before .scan-into .last .1 .1 .1 .1 .0) ≡ row-of c .0) × (length (c .before .before .before .scan-into .last .1 .1 .1 .1 .0) ≡ 4096)
-held c =
-    let r = row-of c in
-    stored-row _ (replicate 4096 0) _ (r .0) (c .before .before .before .scan-into .ensures .1) (r .1) (decode-is _ _ (r .0) (r .1) .long)
-
--- why the scan refused
-reason-of : (c : tie.After-scanned2) → let a = c .before .before .before .before .before .before .before .args in decode (a .order) (a .s .now) ≡ refusal (c .scanned2 .given .0 .0)
-reason-of c =
-    let a = c .before .before .before .before .before .before .before .args in
-    scan-refused (a .order) 0 0 _ (c .scanned2 .given .0 .0) (c .scanned2 .given .1) (c .before .before .before .scan-into .ensures .0)
-
-slice-aggregate-scan-into : tie.Need-slice-aggregate-scan-into
-slice-aggregate-scan-into c = search needs
-
-scan-into-requires : tie.Need-scan-into-requires
-scan-into-requires c κs = search needs
-
-enum-known-scanned : tie.Need-enum-known-scanned
-enum-known-scanned c = search needs
-
-returns : tie.Need-returns
-returns c =
-    let r = row-of (c .before .before) in
-    read-room _ _ _ (r .0) (r .1) (omega (arith, ap (λ (f : Found). f .count) (r .2)))
-
-slice-aggregate-copy : tie.Need-slice-aggregate-copy
-slice-aggregate-copy c = search needs
-
-copy-requires : tie.Need-copy-requires
-copy-requires c κs =
-    let r = row-of (c .before .before .before .before) in
-    let few : length (r .0) ≤ 4096 = decode-is _ _ (r .0) (r .1) .long in
-    let st = held (c .before .before .before .before) in
-    (omega (arith, ap (λ (f : Found). f .count) (r .2), st .1), omega (arith, ap (λ (f : Found). f .count) (r .2)))
-
-enum-known-scanned-2 : tie.Need-enum-known-scanned-2
-enum-known-scanned-2 c = search needs
+read-by-requires : tie.Need-read-by-requires
+read-by-requires c κs = (omega arith, omega arith)
 
 same-length : tie.Need-same-length
 same-length c = search needs
 
-returns-2 : tie.Need-returns-2
-returns-2 c =
-    let m = c .before .before .before .before .before .before .before in
-    let r = row-of m in
-    let n = ap (λ (f : Found). f .count) (r .2) in
-    let a = m .before .before .before .before .before .before .before .args in
-    let fits : length (r .0) ≤ length (a .out .now) = omega arith in
-    let read = read-row _ _ (a .out .now) (r .0) (r .1) fits in
-    let same : c .before .before .copy .last .0 ≡ r .0 ++ drop (length (r .0)) (a .out .now) =
-    c .before .before .copy .ensures ∙ ap (λ (k : ℕ). take k (m .before .before .before .scan-into .last .1 .1 .1 .1 .0) ++ drop k (a .out .now)) n ∙ ap (λ (l : List ℕ). l ++ drop (length (r .0)) (a .out .now)) (held m .0) in
-    (ap accepted n ∙ read .0, same ∙ read .1)
+returns : tie.Need-returns
+returns c = search needs
 
-returns-3 : tie.Need-returns-3
-returns-3 c =
-    read-refused _ _ _ _ _ (reason-of (c .before))
+slice-aggregate-read-by-2 : tie.Need-slice-aggregate-read-by-2
+slice-aggregate-read-by-2 c = search needs
+
+read-by-requires-2 : tie.Need-read-by-requires-2
+read-by-requires-2 c κs = (omega arith, omega arith)
+
+same-length-2 : tie.Need-same-length-2
+same-length-2 c = search needs
+
+returns-2 : tie.Need-returns-2
+returns-2 c = search needs
 
 pub read-spec : {M : Type 1} → statement M
 read-spec =
     tie.close
     (tie.spec
-    slice-aggregate-scan-into
-    scan-into-requires
-    enum-known-scanned
-    returns
-    slice-aggregate-copy
-    copy-requires
-    enum-known-scanned-2
+    slice-aggregate-read-by
+    read-by-requires
     same-length
-    returns-2
-    returns-3)
+    returns
+    slice-aggregate-read-by-2
+    read-by-requires-2
+    same-length-2
+    returns-2)

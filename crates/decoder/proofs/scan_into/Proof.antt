@@ -23,7 +23,7 @@ first-numbers-requires c κs = order-is _ (sym (c .before .before .is-order .ens
 walk-requires : tie.Need-walk-requires
 walk-requires c κs =
     let e = c .before .before .before in
-    (order-is _ (sym (e .before .before .is-order .ensures) ∙ not-false _ (e .before .if1 .left)), c .before .before .first-numbers .ensures, omega (arith, e .if2 .left), omega arith)
+    (order-is _ (sym (e .before .before .is-order .ensures) ∙ not-false _ (e .before .if1 .left)), c .before .before .first-numbers .ensures, omega (arith, e .if2 .left), omega arith, e .before .before .before .before .before .pre)
 
 same-length : tie.Need-same-length
 same-length c = search needs

@@ -10,7 +10,7 @@ use Rattle.bits.specs.Bits.{unpack}
 use Rattle.bits.proofs.Bytes.{unpack-length}
 use Rattle.fibonacci.specs.Calls.{isNumber}
 use Rattle.fibonacci.proofs.Checks.{number-is}
-use Rattle.decoder.proofs.Scanning.{Walked, walked-start, walked-length, walked-zero, walked-one, walked-full, walked-many, walked-large, walked-padding, walked-found, walked-rest}
+use Rattle.decoder.proofs.Scanning.{Walked, walked-start, walked-zero, walked-one, walked-full, walked-many, walked-large, walked-stored, walked-padding, walked-found, walked-rest}
 use Rattle.decoder.proofs.walk.Statement.{statement}
 use Rattle.decoder.proofs.walk.Tie as tie
 
@@ -48,7 +48,7 @@ add-run : tie.Need-add-run Inv-loop μ-loop
 add-run c = omega (arith, c .before .before .before .loop .inv .2 .held)
 
 same-length : tie.Need-same-length Inv-loop μ-loop
-same-length c = walked-length (c .before .before .before .before .before .loop .inv .2)
+same-length c = c .before .before .before .before .before .loop .inv .2 .sized
 
 returns : tie.Need-returns Inv-loop μ-loop
 returns c =
@@ -65,7 +65,7 @@ is-number-requires : tie.Need-is-number-requires Inv-loop μ-loop
 is-number-requires c κs = search needs
 
 same-length-2 : tie.Need-same-length-2 Inv-loop μ-loop
-same-length-2 c = walked-length (c .before .before .before .before .before .before .before .before .loop .inv .2)
+same-length-2 c = c .before .before .before .before .before .before .before .before .loop .inv .2 .sized
 
 returns-2 : tie.Need-returns-2 Inv-loop μ-loop
 returns-2 c =
@@ -76,7 +76,9 @@ returns-2 c =
     (n .number .result) (n .number .ensures) (n .before .if3 .left) (p .3) (sym (c .before .is-number .ensures) ∙ not-true _ (c .if4 .taken))) (refl, tt)
 
 store-requires : tie.Need-store-requires Inv-loop μ-loop
-store-requires c κs = omega (arith, number-is _ _ (passed (c .before)), c .before .before .before .before .before .before .before .before .before .before .before .before .pre .3)
+store-requires c κs =
+    let b = c .before .before .before .before .before .before .before in
+    (omega (arith, number-is _ _ (passed (c .before)), b .before .before .before .before .before .pre .3), omega (arith, b .before .before .loop .inv .2 .sized, b .before .before .before .before .before .pre .4))
 
 plus-requires : tie.Need-plus-requires Inv-loop μ-loop
 plus-requires c κs =
@@ -135,7 +137,7 @@ is-padding-requires : tie.Need-is-padding-requires Inv-loop μ-loop
 is-padding-requires c κs = search needs
 
 same-length-3 : tie.Need-same-length-3 Inv-loop μ-loop
-same-length-3 c = walked-length (c .before .before .before .loop .inv .2)
+same-length-3 c = c .before .before .before .loop .inv .2 .sized
 
 returns-3 : tie.Need-returns-3 Inv-loop μ-loop
 returns-3 c =
@@ -147,14 +149,14 @@ sub-t16 : tie.Need-sub-t16 Inv-loop μ-loop
 sub-t16 c = omega (arith, c .before .before .before .loop .inv .2 .held)
 
 same-length-4 : tie.Need-same-length-4 Inv-loop μ-loop
-same-length-4 c = walked-length (c .before .before .before .loop .inv .2)
+same-length-4 c = c .before .before .before .loop .inv .2 .sized
 
 returns-4 : tie.Need-returns-4 Inv-loop μ-loop
 returns-4 c =
     let l = c .before .before .before .loop in
     let p = c .before .before .before .before .before .before .pre in
     let good = sym (c .before .is-padding .ensures) ∙ not-false _ (c .if5 .left) in
-    rw (walked-padding (l .inv .2) (p .0) (past (c .before .before)) good) (walked-found (l .inv .2) (p .0) (past (c .before .before)) _ (sym (unpack-length (c .before .before .before .before .before .before .args .s .now))) good, l .inv .2 .stored)
+    rw (walked-padding (l .inv .2) (p .0) (past (c .before .before)) good) (walked-found (l .inv .2) (p .0) (past (c .before .before)) _ (sym (unpack-length (c .before .before .before .before .before .before .args .s .now))) good, walked-stored (l .inv .2) (p .0) (past (c .before .before)))
 
 pub walk-spec : {M : Type 1} → statement M
 walk-spec =
