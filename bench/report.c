@@ -136,10 +136,23 @@ static void print_reach(void)
     reach_line(two_bytes, TWO_BYTES, 4);
 }
 
-/* A time with three digits or so. */
+/* A time with three digits or so, a ratio with two or more, and the length of a row, which is at most 4,096. */
 static void print_time(double ns)
 {
     printf(ns < 10 ? "%.2f" : ns < 1000 ? "%.1f" : "%.0f", ns);
+}
+
+static void print_ratio(double r)
+{
+    printf(r < 0.095 ? "%.2g" : "%.2f", r);
+}
+
+static void print_count(size_t count)
+{
+    if (count < 1000)
+        printf("%zu", count);
+    else
+        printf("%zu,%03zu", count / 1000, count % 1000);
 }
 
 static void print_cell(const struct times *t, struct pair p, double per)
@@ -150,7 +163,8 @@ static void print_cell(const struct times *t, struct pair p, double per)
         print_time(t->ns[p.side] / per);
         printf(" / ");
         print_time(t->ns[p.other] / per);
-        printf(" = %.2f", r);
+        printf(" = ");
+        print_ratio(r);
     }
     printf(" |");
 }
@@ -167,7 +181,9 @@ static void pair_line(struct pair p, enum kind kind, size_t count)
 
     if (worst(p, kind, count, &t) == 0)
         return;
-    printf("| %s | %s | %zu | %s | ", calls[p.side].name, calls[p.other].name, count, kind_names[kind]);
+    printf("| %s | %s | ", calls[p.side].name, calls[p.other].name);
+    print_count(count);
+    printf(" | %s | ", kind_names[kind]);
     for (size_t order = 2; order <= 6; order++) {
         print_cell(find(order, kind, count), p, by_call(p.side) ? 1 : (double)count);
         printf(order < 6 ? " " : "\n");
@@ -199,7 +215,9 @@ static void print_growth(enum kind kind, const enum side *sides, size_t n)
         const struct times *t = find(3, kind, count);
         if (t == NULL)
             continue;
-        printf("\n| %zu |", count);
+        printf("\n| ");
+        print_count(count);
+        printf(" |");
         for (size_t k = 0; k < n; k++) {
             printf(" ");
             print_time(t->ns[sides[k]]);
