@@ -5,7 +5,8 @@
 #include <stdlib.h>
 #include <time.h>
 
-#define ROUNDS 40
+#define BLOCKS 9 /* of each block of rounds the best counts, and of those the median */
+#define ROUNDS 5
 #define PARTS_MOST 8
 #define LEAST_NS 20000.0 /* a part is gone over until so much time has passed */
 
@@ -55,22 +56,35 @@ static void better(struct pool *p, enum side s, size_t part, size_t passes, doub
         *best = ns;
 }
 
+static int by_size(const void *a, const void *b)
+{
+    double x = *(const double *)a, y = *(const double *)b;
+
+    return x < y ? -1 : x > y;
+}
+
+static double median(double *times)
+{
+    qsort(times, BLOCKS, sizeof *times, by_size);
+    return times[BLOCKS / 2];
+}
+
 /* The sides take turns part by part, each at another part than the one before it, which would else make the next one's branches known. */
 void measure(struct pool *p, const enum side *sides, size_t n, struct times *t)
 {
-    double best[SIDES][PARTS_MOST] = {{0}};
+    double best[SIDES][PARTS_MOST][BLOCKS] = {{{0}}};
     size_t passes[SIDES], parts = p->n / p->part;
 
     for (size_t i = 0; i < n; i++) {
         check(p, sides[i], t->kind);
         passes[i] = 1 + (size_t)(LEAST_NS / once(p, sides[i], 0, p->part, 1));
     }
-    for (size_t turn = 0; turn < ROUNDS * parts; turn++)
+    for (size_t turn = 0; turn < BLOCKS * ROUNDS * parts; turn++)
         for (size_t i = 0; i < n; i++) {
             size_t part = (turn + i) % parts;
-            better(p, sides[i], part, passes[i], &best[i][part]);
+            better(p, sides[i], part, passes[i], &best[i][part][turn / (ROUNDS * parts)]);
         }
     for (size_t i = 0; i < n; i++)
         for (size_t k = 0; k < parts; k++)
-            t->ns[sides[i]] += best[i][k] / p->n;
+            t->ns[sides[i]] += median(best[i][k]) / p->n;
 }
