@@ -308,7 +308,8 @@ int report_picture(const char *folder)
     }
     fprintf(f, "<svg xmlns='http://www.w3.org/2000/svg' width='%d' height='%d' font-family='sans-serif' font-size='12'>\n", LEFT + WIDTH + 70, height);
     fprintf(f, "<rect width='100%%' height='100%%' fill='white'/>\n");
-    fprintf(f, "<text x='10' y='22' font-size='15'>Time of the proved side over the other's: rows of 4,096, the worst order; the mark is what it may be</text>\n");
+    fprintf(f, "<text x='10' y='22' font-size='15'>%s</text>\n",
+            "Time of the proved side over the other's: rows of 4,096, the worst order; the mark is what it may be");
     axis(f, height);
     for (size_t i = 0; i < PAIRS; i++)
         for (enum kind kind = GEOMETRIC; kind <= TO_256; kind++)
