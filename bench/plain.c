@@ -87,26 +87,12 @@ size_t plain_read(size_t order, const uint8_t *s, size_t len, uint32_t *out)
 
 uint64_t plain_total(size_t order, const uint8_t *s, size_t len, size_t a, size_t b)
 {
-    size_t count = 0, d = 0, run = 0;
-    uint64_t value = 0, total = 0;
+    uint32_t row[4096];
+    uint64_t total = 0;
 
-    for (size_t i = 0; i < len; i++)
-        for (int j = 7; j >= 0; j--) {
-            if (s[i] >> j & 1) {
-                run++;
-                if (run == order) {
-                    if (count >= a && count < b)
-                        total += plain_first[order][d] + value;
-                    count++;
-                    d = run = 0;
-                    value = 0;
-                }
-            } else {
-                for (; run > 0; run--)
-                    value += plain_F[order][++d];
-                d++;
-            }
-        }
+    plain_read(order, s, len, row);
+    for (size_t i = a; i < b; i++)
+        total += row[i];
     return total;
 }
 

@@ -5,7 +5,7 @@
 #include <stddef.h>
 #include <stdint.h>
 
-/* Makes the tables: position values, first numbers, and the 768 rows of the table reader. To be called once, before anything else. */
+/* Makes the tables, and by plain_table_start the 768 rows of the table reader. To be called once, before anything else. */
 void plain_start(void);
 void plain_table_start(void);
 

@@ -1,10 +1,9 @@
 // Reading an encoding of order 2 to 6, bit by bit, and the scan that totals and appending share with it.
 ghost use mathlib.Core.Path.{_≡_};
 ghost use mathlib.Core.Bool.{_&&_};
-ghost use mathlib.Core.List.{_++_};
 ghost use Prim.Native.Nat.{_+_, _-_, _*_, _^_, _≤_, _<_, min};
 ghost use lib.Dec.{eqb, ltb};
-ghost use lib.ListN.{length, take, drop, set};
+ghost use lib.ListN.{length, set};
 ghost use Rattle.bits.specs.Bits.{unpack};
 ghost use Rattle.fibonacci.specs.Code.{ones, value, first};
 ghost use Rattle.fibonacci.specs.Tables.{Order, tableRow};
@@ -196,8 +195,8 @@ fn read_by(order: usize, s: &[u8], out: &mut [u32], row: &mut [u32]) -> ReadAnsw
     }
 }
 
-// Reads an encoding. The row goes to a list of its own first, as a refusal must leave the output as it was. No codeword is shorter than two bits, so a few
-// bytes need a short list only; a long one of zeros takes longer to make than they take to read.
+// Reads an encoding. The row goes to a list of its own first, as a refusal must leave the output as it was. No codeword is shorter than two bits, so 16 bytes
+// hold at most 64 numbers; a list of zeros for 4,096 takes longer to make than a few bytes take to read.
 pub fn read(order: usize, s: &[u8], out: &mut [u32]) -> ReadAnswer
     ensures { λ r. ⌜ ReadPromise order (now (s .entry)) (now (out .entry)) r (now (out .exit)) ⌝ }
 {
