@@ -12,10 +12,10 @@ use Rattle.bits.proofs.Bytes.{unpack-length}
 use Rattle.bits.proofs.Packing.{unpack-pack, padding-below, pack-length, pack-bytes, unpack-apart}
 use Rattle.bits.proofs.Count.{zeros-none, none-zeros}
 use Rattle.fibonacci.specs.Code.{sum}
-use Rattle.fibonacci.specs.Encoding.{Positive, rowBits, encoding, rest, parse}
+use Rattle.fibonacci.specs.Encoding.{rowBits, encoding, rest, parse}
 use Rattle.fibonacci.specs.Tables.{Order}
 use Rattle.fibonacci.specs.Calls.{accepted, isNumber, Legal, largest, longest}
-use Rattle.fibonacci.proofs.Checks.{is-order, number-is, is-number}
+use Rattle.fibonacci.proofs.Checks.{is-order, is-number, positive}
 use Rattle.fibonacci.proofs.Rows.{bits-append, numbers-bits, encoding-parse, encoding-read}
 use Rattle.decoder.specs.Reading.{decode, read, readInto}
 use Rattle.decoder.proofs.Decoding.{decode-is, decode-accepts, read-is, read-row}
@@ -30,20 +30,16 @@ use Rattle.appender.proofs.Appending.{Given, append-fits}
 
 -- ## Reading what was written
 
-pub positive : (row : List ℕ) → Legal largest row → Positive row
-positive [] a = tt
-positive (n ∷ row) a = (number-is largest n (a .0) .0, positive row (a .1))
-
 pub decode-encoding : (m : ℕ) (row : List ℕ) → Order m → length row ≤ longest → Legal largest row → decode m (encoding m row) ≡ accepted row
 unfolding encoding
 decode-encoding m row o c a =
-    let parse-is = encoding-parse m row (omega arith) (positive row a) in
+    let parse-is = encoding-parse m row (omega arith) (positive largest row a) in
     let rest-is : rest (parse m (unpack (encoding m row))) ≡ replicate (padding (length (rowBits m row))) false = ap rest parse-is in
     decode-accepts m (encoding m row) row
     (record {
       order = o;
       bytes = omega (arith, pack-length (rowBits m row), bits-few m row o a);
-      is = sym (encoding-read m row (omega arith) (positive row a));
+      is = sym (encoding-read m row (omega arith) (positive largest row a));
       legal = a;
       long = c;
       short = rw rest-is (omega (arith, length-replicate (padding (length (rowBits m row))) false, padding-below (length (rowBits m row))));

@@ -7,6 +7,7 @@ use native.Mathlib.Omega.{arith}
 use lib.Dec.{leb}
 use borrow.Author.Tests.{le-leb, lt-leb, leb-true, not-false}
 use Rattle.fibonacci.specs.Calls.{Outcome, accepted, refused, check, andThen, within, isOrder, isNumber, Legal, checkEach}
+use Rattle.fibonacci.specs.Encoding.{Positive}
 use Rattle.fibonacci.specs.Tables.{Order}
 
 -- ## One number
@@ -37,6 +38,11 @@ is-number limit n p h = simp (le-leb 1 n p, le-leb n limit h)
 pub above-number : (limit n : ℕ) → 1 ≤ n → limit < n → isNumber limit n ≡ false
 unfolding isNumber
 above-number limit n p h = simp (le-leb 1 n p, lt-leb n limit h)
+
+-- the numbers of a row are from 1 up
+pub positive : (limit : ℕ) (row : List ℕ) → Legal limit row → Positive row
+positive limit [] a = tt
+positive limit (n ∷ row) a = (number-is limit n (a .0) .0, positive limit row (a .1))
 
 -- ## Chains of checks
 

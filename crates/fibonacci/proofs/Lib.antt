@@ -8,3 +8,4 @@ pub mod Rows
 pub mod Demand
 pub mod Lookup
 pub mod Checks
+pub mod Sums

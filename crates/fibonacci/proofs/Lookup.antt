@@ -52,9 +52,9 @@ unfolding first F past
 first-over m h = leb-false _ _ (each-order (λ m. leb (first m (48 - m)) largest) false refl m h)
 
 -- the first numbers of few bits are small
-pub first-few : (m d : ℕ) → Order m → d ≤ 8 → first m d ≤ largest
+pub first-few : (m d : ℕ) → Order m → d ≤ 9 → first m d ≤ largest
 unfolding first F past
-first-few m d h l = omega (arith, leb-true (first m 8) largest (each-order (λ m. leb (first m 8) largest) true refl m h), first-rises m l)
+first-few m d h l = omega (arith, leb-true (first m 9) largest (each-order (λ m. leb (first m 9) largest) true refl m h), first-rises m l)
 
 -- ## What a look-up gives
 

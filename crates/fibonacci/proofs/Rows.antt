@@ -20,7 +20,7 @@ row-coded : (m : ℕ) (row : List ℕ) → 1 ≤ m → Positive row → All (Cod
 row-coded m [] p h = tt
 row-coded m (n ∷ row) p h = (codeword-good m n p (h .0) .0, row-coded m row p (h .1))
 
-row-numbers : (m : ℕ) (row : List ℕ) → 1 ≤ m → Positive row → map (number m) (map (codeword m) row) ≡ row
+pub row-numbers : (m : ℕ) (row : List ℕ) → 1 ≤ m → Positive row → map (number m) (map (codeword m) row) ≡ row
 row-numbers m [] p h = refl
 row-numbers m (n ∷ row) p h = ap₂ (λ (x : ℕ) (l : List ℕ). x ∷ l) (codeword-good m n p (h .0) .1) (row-numbers m row p (h .1))
 

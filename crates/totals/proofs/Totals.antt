@@ -1,14 +1,14 @@
 -- Totals by what a scan found, and how large they can be.
 use mathlib.Core.Path.{_≡_, refl, ap}
-use mathlib.Core.List.{List, [], _∷_}
-use Prim.Native.Nat.{ℕ, zero, suc, _*_, _≤_, _<_}
+use mathlib.Core.List.{List}
+use Prim.Native.Nat.{ℕ, _*_, _≤_, _<_}
 use native.Mathlib.Omega.{arith}
-use lib.ListN.{length, take, drop}
+use lib.ListN.{length}
 use lib.Seq.{slice, take-all}
 use borrow.Author.Tests.{le-leb, lt-leb, lt-ltb, le-ltb}
 use Rattle.fibonacci.specs.Code.{sum}
-use Rattle.fibonacci.specs.Calls.{accepted, refused, Legal, largest, longest}
-use Rattle.fibonacci.proofs.Checks.{number-is}
+use Rattle.fibonacci.specs.Calls.{accepted, refused, largest, longest}
+use Rattle.fibonacci.proofs.Sums.{slice-most}
 use Rattle.decoder.specs.Reading.{decode}
 use Rattle.decoder.proofs.Decoding.{decode-is}
 use Rattle.totals.specs.Totals.{total, repeatedTotal}
@@ -32,25 +32,11 @@ pub total-refused : (m : ℕ) (s : List ℕ) (a b n p : ℕ) → decode m s ≡ 
 unfolding total
 total-refused m s a b n p e = rw e refl
 
-sum-most : (row : List ℕ) → Legal largest row → sum row ≤ largest * length row
-sum-most [] a = omega arith
-sum-most (n ∷ row) a = omega (arith, number-is largest n (a .0), sum-most row (a .1))
-
-sum-take : (n : ℕ) (l : List ℕ) → sum (take n l) ≤ sum l
-sum-take zero l = omega arith
-sum-take (suc n) [] = omega arith
-sum-take (suc n) (x ∷ l) = omega (arith, sum-take n l)
-
-sum-drop : (n : ℕ) (l : List ℕ) → sum (drop n l) ≤ sum l
-sum-drop zero l = omega arith
-sum-drop (suc n) [] = omega arith
-sum-drop (suc n) (x ∷ l) = omega (arith, sum-drop n l)
-
 -- the sum of any span of a row that was read is at most 4,096 times the largest number
 pub span-most : (m : ℕ) (s row : List ℕ) (a b : ℕ) → decode m s ≡ accepted row → sum (slice a b row) ≤ largest * longest
 span-most m s row a b e =
     let d = decode-is m s row e in
-    omega (arith, sum-drop a (take b row), sum-take b row, sum-most row (d .legal), d .long)
+    omega (arith, slice-most largest (omega arith) row a b (d .legal), d .long)
 
 -- ## The total of a repeated row
 

@@ -14,7 +14,7 @@ use Rattle.fibonacci.specs.Code.{past, F, value, first, number, size, digits, c
 use Rattle.fibonacci.specs.Encoding.{rowBits, encoding, parseAfter, parse, numbers}
 use Rattle.fibonacci.specs.Tables.{Order}
 use Rattle.fibonacci.specs.Calls.{accepted, refused, isOrder, isNumber, Legal, largest, longest, checkEach}
-use Rattle.fibonacci.proofs.Checks.{is-order}
+use Rattle.fibonacci.proofs.Checks.{is-order, positive}
 use Rattle.fibonacci.proofs.Rows.{encoding-read}
 use Rattle.decoder.specs.Reading.{checkFinished, contents, decode, read, readInto}
 use Rattle.decoder.proofs.Checking.{contents-many}
@@ -23,7 +23,7 @@ use Rattle.encoder.specs.Writing.{write}
 use Rattle.encoder.proofs.Writing.{write-accepts}
 use Rattle.appender.specs.Appending.{append}
 use Rattle.appender.proofs.Appending.{given-read, append-full}
-use Rattle.appender.proofs.RoundTrip.{positive, decode-encoding, legal-same}
+use Rattle.appender.proofs.RoundTrip.{decode-encoding, legal-same}
 use Rattle.worked.specs.Pencil.{answer}
 use Rattle.worked.specs.Sentences.{onesRow, Largest, Sentences}
 
@@ -72,7 +72,7 @@ module _ (m : ℕ) (o : Order m) where
   decoded =
       decode-contents m (encoding m (onesRow (suc longest))) (is-order m o) (omega (arith, ones-bytes m (suc longest)))
       ∙ contents-many largest m (unpack (encoding m (onesRow (suc longest)))) (onesRow longest) (ones-legal longest) 1 []
-      (encoding-read m (onesRow (suc longest)) (omega arith) (positive (onesRow (suc longest)) (ones-legal (suc longest))) ∙ ones-more longest)
+      (encoding-read m (onesRow (suc longest)) (omega arith) (positive largest (onesRow (suc longest)) (ones-legal (suc longest))) ∙ ones-more longest)
       (ones-length longest)
 
   read-back : (room : ℕ) → read m (encoding m (onesRow (suc longest))) room ≡ refused 4 0
