@@ -1,0 +1,3 @@
+pub mod Starts
+pub mod Taking
+pub mod Spans

@@ -1,0 +1,207 @@
+-- A word that has the next bits of an encoding: how it is filled, what its first codeword is, and what is left of it.
+use mathlib.Core.Path.{_≡_, refl, sym, ap, ap₂, subst, _∙_}
+use mathlib.Core.Bool.{Bool, true, false, true≢false}
+use mathlib.Core.List.{List, [], _∷_, _++_, append-assoc, append-nil, flatten}
+use Prim.Native.Nat.{ℕ, zero, suc, _+_, _-_, _*_, _/_, _%_, _^_, _≤_, _<_}
+use native.Mathlib.Omega.{arith}
+use native.Mathlib.Decide.{decLe}
+use lib.ListN.{length, getD, take, drop, replicate, length-append, length-drop, take-append-drop, replicate-append-replicate}
+use lib.Seq.{take-nil, drop-drop, drop-append-le, take-append-le, take-take, length-take-le}
+use lib.Count.{leadingZeros}
+use Rattle.bits.specs.Bits.{wordBits, unpack}
+use Rattle.bits.proofs.Bytes.{unpack-take, unpack-drop, unpack-length}
+use Rattle.bits.proofs.Words.{words-zero}
+use Rattle.fibonacci.specs.Code.{value, first, number, codeword, Codeword}
+use Rattle.fibonacci.specs.Encoding.{rowBits}
+use Rattle.fibonacci.specs.Calls.{isNumber, largest}
+use Rattle.fibonacci.specs.Tables.{Order}
+use Rattle.fibonacci.proofs.Checks.{number-is, is-number}
+use Rattle.fibonacci.proofs.Lookup as lookup
+use Rattle.fibonacci.proofs.Each.{all-append}
+use Rattle.fibonacci.proofs.Numbers.{codeword-number, number-of}
+use Rattle.fibonacci.proofs.Rows.{bits-append}
+use Rattle.word_decoder.specs.Words.{Taken, Judged, starts, Ahead}
+use Rattle.word_decoder.proofs.Starts.{up, words-up, zeros-default, starts-zeros, starts-up, mark-one, mark-none, first-within, first-ends, first-coded, first-zero}
+
+drop-take : {A : Type 0} (t n : ℕ) (l : List A) → drop t (take n l) ≡ take (n - t) (drop t l)
+drop-take zero n l = let e : n ≡ n - 0 = omega arith in ap (λ (k : ℕ). take k l) e
+drop-take (suc t) zero l = let e : 0 ≡ 0 - suc t = omega arith in ap (λ (k : ℕ). take k (drop (suc t) l)) e
+drop-take (suc t) (suc n) [] = sym (take-nil (suc n - suc t))
+drop-take (suc t) (suc n) (x ∷ l) = let e : n - t ≡ suc n - suc t = omega arith in drop-take t n l ∙ ap (λ (k : ℕ). take k (drop t l)) e
+
+-- ## A word is filled
+
+-- nothing
+pub ahead-none : (b : List Bool) (k : ℕ) → k ≤ length b → Ahead b k 0
+ahead-none b k h = record { some = 0; others = 64; all = refl; within = omega arith; bits = words-zero 64 }
+
+-- eight bytes from the one with bit k, moved up so that bit k is on top
+pub ahead-load : (s : List ℕ) (k w : ℕ) → k / 8 + 8 ≤ length s → wordBits 64 w ≡ unpack (take 8 (drop (k / 8) s))
+    → Ahead (unpack s) k (w * 2 ^ (k % 8) % 2 ^ 64)
+ahead-load s k w h e =
+    let o : ℕ = k % 8 in
+    let at : 8 * (k / 8) + o ≡ k = omega arith in
+    record {
+      some = 64 - o;
+      others = o;
+      all = omega arith;
+      within = omega (arith, unpack-length s);
+      bits =
+          words-up 64 w o (omega arith)
+          ∙ ap (λ (l : List Bool). l ++ replicate o false)
+          (ap (drop o) (e ∙ unpack-take (drop (k / 8) s) 8 ∙ ap (take 64) (unpack-drop s (k / 8)))
+          ∙ drop-take o 64 (drop (8 * (k / 8)) (unpack s))
+          ∙ ap (take (64 - o)) (drop-drop o (8 * (k / 8)) (unpack s) ∙ ap (λ (n : ℕ). drop n (unpack s)) at));
+    }
+
+-- ## The first codeword of a word
+
+module _ {b : List Bool} {k w : ℕ} (a : Ahead b k w) where
+  -- the bits that it has
+  abbrev held : List Bool
+  held = take (a .some) (drop k b)
+
+  held-length : length held ≡ a .some
+  held-length = length-take-le (a .some) (drop k b) (omega (arith, length-drop k b, a .within))
+
+  held-take : (n : ℕ) → n ≤ a .some → take n (wordBits 64 w) ≡ take n (drop k b)
+  held-take n h = ap (take n) (a .bits) ∙ take-append-le n held (replicate (a .others) false) (omega (arith, held-length)) ∙ take-take n (a .some) (drop k b) h
+
+  -- what is left when t of them are taken off
+  pub ahead-up : (t : ℕ) → t ≤ a .some → Ahead b (k + t) (w * 2 ^ t % 2 ^ 64)
+  ahead-up t h =
+      record {
+        some = a .some - t;
+        others = a .others + t;
+        all = omega (arith, a .all);
+        within = omega (arith, a .within);
+        bits =
+            words-up 64 w t (omega (arith, a .all)) ∙ ap (up t) (a .bits)
+            ∙ ap (λ (l : List Bool). l ++ replicate t false) (drop-append-le t held (replicate (a .others) false) (omega (arith, held-length)))
+            ∙ append-assoc (drop t held) (replicate (a .others) false) (replicate t false)
+            ∙ ap₂ (λ (x y : List Bool). x ++ y)
+            (drop-take t (a .some) (drop k b) ∙ ap (take (a .some - t)) (drop-drop t k b))
+            (replicate-append-replicate (a .others) t false);
+      }
+
+  module _ (m y : ℕ) (pos : 1 ≤ m) (marks : wordBits 64 y ≡ starts m (wordBits 64 w)) (some : 1 ≤ y) (low : y < 2 ^ 64) where
+    -- how many bits stand before the last ones of the first codeword
+    abbrev stem : ℕ
+    stem = leadingZeros 64 y
+
+    marked : (i : ℕ) → getD (wordBits 64 y) i false ≡ getD (starts m held) i false
+    marked i =
+        ap (λ (l : List Bool). getD l i false) (marks ∙ ap (starts m) (a .bits) ∙ starts-zeros m held (a .others) pos)
+        ∙ zeros-default (starts m held) (a .others) i
+
+    one : getD (starts m held) stem false ≡ true
+    one = sym (marked stem) ∙ mark-one 64 y some low
+
+    none : (i : ℕ) → i < stem → getD (starts m held) i false ≡ false
+    none i h = sym (marked i) ∙ mark-none 64 y some low i h
+
+    pub codeword-within : stem + m ≤ a .some
+    codeword-within = omega (arith, first-within m pos held stem one none, held-length)
+
+    abbrev word : List Bool
+    word = take (stem + m) (drop k b)
+
+    held-word : take (stem + m) held ≡ word
+    held-word = take-take (stem + m) (a .some) (drop k b) codeword-within
+
+    pub word-coded : Codeword m word
+    word-coded = subst (Codeword m) held-word (first-coded m pos held stem one none)
+
+    pub word-zero : 1 ≤ stem → getD (wordBits 64 w) (stem - 1) false ≡ false
+    word-zero h =
+        ap (λ (l : List Bool). getD l (stem - 1) false) (a .bits) ∙ zeros-default held (a .others) (stem - 1) ∙ first-zero m pos held stem one none h
+
+    pub word-number : number m word ≡ first m stem + value m 1 (take stem (wordBits 64 w))
+    word-number =
+        let p : take stem held ≡ take stem (wordBits 64 w) = take-take stem (a .some) (drop k b) (omega (arith, codeword-within)) ∙ sym (held-take stem (omega (arith, codeword-within))) in
+        let l : length (take stem held) ≡ stem = length-take-le stem held (omega (arith, codeword-within, held-length)) in
+        ap (number m) (sym held-word ∙ first-ends m pos held stem one none) ∙ number-of m (take stem held)
+        ∙ ap₂ (λ (d : ℕ) (x : List Bool). first m d + value m 1 x) l p
+
+-- ## A number more
+
+pub taken-none : (m limit : ℕ) (b : List Bool) (k : ℕ) → k ≤ length b → Taken m limit b k k []
+taken-none m limit b k h = record { bits = unfold rowBits flatten in refl; legal = tt; within = h }
+
+pub taken-more : (m limit : ℕ) (b : List Bool) (k e : ℕ) (row : List ℕ) (t n : ℕ) → 1 ≤ m → Taken m limit b k e row
+    → e + t ≤ length b → Codeword m (take t (drop e b)) → n ≡ number m (take t (drop e b)) → isNumber limit n ≡ true
+    → Taken m limit b k (e + t) (row ++ (n ∷ []))
+taken-more m limit b k e row t n p r h c is l =
+    record {
+      bits =
+          r .bits
+          ∙ ap (λ (x : List Bool). rowBits m row ++ x)
+          (sym (take-append-drop t (drop e b)) ∙ ap₂ (λ (x y : List Bool). x ++ y) (sym last) (drop-drop t e b))
+          ∙ sym (append-assoc (rowBits m row) (rowBits m (n ∷ [])) (drop (e + t) b))
+          ∙ ap (λ (x : List Bool). x ++ drop (e + t) b) (sym (bits-append m row (n ∷ [])));
+      legal = all-append (λ n. isNumber limit n ≡ true) row (n ∷ []) (r .legal) (l, tt);
+      within = h;
+    }
+  where
+    alone : rowBits m (n ∷ []) ≡ codeword m n
+    alone = unfold rowBits flatten in append-nil (codeword m n)
+
+    last : rowBits m (n ∷ []) ≡ take t (drop e b)
+    last = alone ∙ ap (codeword m) is ∙ codeword-number m (take t (drop e b)) p c .0
+
+-- ## What a loop keeps
+
+-- From bit k₀ on the numbers `row` were taken, count₀ having been before; the next bits are in a word, and where m ones begin in it is marked
+pub record Going (m limit : ℕ) (b : List Bool) (k₀ count₀ : ℕ) (row : List ℕ) (bit count left marks : ℕ) : Type 0 where
+  pub taken : Taken m limit b k₀ bit row
+  pub many : count ≡ count₀ + length row
+  pub ahead : Ahead b bit left
+  pub marked : wordBits 64 marks ≡ starts m (wordBits 64 left)
+  pub low : marks < 2 ^ 64
+
+module _ {m limit : ℕ} {b : List Bool} {k₀ count₀ : ℕ} {row : List ℕ} {bit count left marks : ℕ} (g : Going m limit b k₀ count₀ row bit count left marks) where
+  -- the word is filled anew
+  pub going-filled : (left' marks' : ℕ) → Ahead b bit left' → wordBits 64 marks' ≡ starts m (wordBits 64 left') → marks' < 2 ^ 64
+      → Going m limit b k₀ count₀ row bit count left' marks'
+  going-filled left' marks' a e l = record { taken = g .taken; many = g .many; ahead = a; marked = e; low = l }
+
+  -- a codeword ends in it, and n was found for its number
+  module _ (o : Order m) (some : 1 ≤ marks) where
+    abbrev len : ℕ
+    len = leadingZeros 64 marks
+
+    pub going-zero : 1 ≤ len → getD (wordBits 64 left) (len - 1) false ≡ false
+    going-zero = word-zero (g .ahead) m marks (omega arith) (g .marked) some (g .low)
+
+    pub going-within : bit + (len + m) ≤ length b
+    going-within = omega (arith, codeword-within (g .ahead) m marks (omega arith) (g .marked) some (g .low), g .ahead .within)
+
+    module _ (n : ℕ) (is : Judged (first m len + value m 1 (take len (wordBits 64 left))) n) (legal : isNumber limit n ≡ true) (top : limit ≤ largest) where
+      same : (n ≡ first m len + value m 1 (take len (wordBits 64 left))) × (first m len ≤ largest)
+      same =
+          let l = number-is limit n legal in
+          let x : ℕ = first m len + value m 1 (take len (wordBits 64 left)) in
+          elim (decLe x largest) [
+            | yes h ↦ (is .0 h, omega arith)
+            | no h ↦ absurd (true≢false (sym (is-number largest n (l .0) (omega (arith, l .1))) ∙ is .1 (omega arith)))
+          ]
+
+      pub going-short : len + m ≤ 47
+      going-short = lookup.first-within m o len (same .1)
+
+      pub going-more : Going m limit b k₀ count₀ (row ++ (n ∷ [])) (bit + (len + m)) (count + 1) (left * 2 ^ (len + m) % 2 ^ 64) (marks * 2 ^ (len + m) % 2 ^ 64)
+      going-more =
+          let pos : 1 ≤ m = omega arith in
+          let t : ℕ = len + m in
+          let fits : t ≤ 64 = omega (arith, going-short) in
+          record {
+            taken =
+                taken-more m limit b k₀ bit row t n pos (g .taken) going-within (word-coded (g .ahead) m marks pos (g .marked) some (g .low))
+                (same .0 ∙ sym (word-number (g .ahead) m marks pos (g .marked) some (g .low))) legal;
+            many = omega (arith, g .many, length-append row (n ∷ []));
+            ahead = ahead-up (g .ahead) t (codeword-within (g .ahead) m marks pos (g .marked) some (g .low));
+            marked =
+                words-up 64 marks t fits ∙ ap (up t) (g .marked) ∙ sym (starts-up m t (wordBits 64 left) pos)
+                ∙ ap (starts m) (sym (words-up 64 left t fits));
+            low = omega arith;
+          }
