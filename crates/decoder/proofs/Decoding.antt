@@ -21,7 +21,7 @@ use Rattle.decoder.specs.declared.Refusal.{Refusal}
 use Rattle.decoder.specs.declared.Found.{Found}
 use Rattle.decoder.specs.declared.ScanAnswer.{ScanAnswer}
 use Rattle.decoder.specs.declared.ScanAnswer.the-variants.{Row, Refused}
-use Rattle.decoder.specs.Answers.{refusal, scanOutcome, found, Stored}
+use Rattle.decoder.specs.Answers.{refusal, scanOutcome, found, Stored, Kept}
 use Rattle.decoder.proofs.Checking.{finished-all, rest-good}
 use Rattle.decoder.specs.Demand.{ReturnsParse}
 use Rattle.decoder.specs.Reading.{checkFinished, contents, decode, read, readInto}
@@ -126,6 +126,12 @@ pub scan-refused : (m from to : ℕ) (d : Outcome (List ℕ)) (x : Refusal) {r :
     → d ≡ refusal x
 scan-refused m from to (accepted row) x t e = absurd (not-both (ap scanOutcome (sym t) ∙ e))
 scan-refused m from to (refused n p) x t e = sym (refused-same (ap scanOutcome (sym t) ∙ e))
+
+-- what was stored before and after makes the row
+pub kept-stored : (m : ℕ) (b : List Bool) (count : ℕ) (d : Outcome (List ℕ)) (over before after : List ℕ) → Kept m b count d before after
+    → before ≡ sets over 0 (take count (numbers m b)) → Stored d over after
+kept-stored m b count (accepted row) over before after k e = λ h. k over h e
+kept-stored m b count (refused number place) over before after k e = tt
 
 -- a list with room for the row holds it
 pub stored-row : (d : Outcome (List ℕ)) (before after row : List ℕ) → Stored d before after → d ≡ accepted row → length row ≤ length before

@@ -1,69 +1,29 @@
--- What a loop over the bits of an encoding keeps, and where each of its steps leads.
+-- What a loop over the bits of an encoding keeps, from where words left off, and where each of its steps leads.
 use mathlib.Core.Path.{_≡_, refl, sym, ap, _∙_}
 use mathlib.Core.Bool.{Bool, true, false}
 use mathlib.Core.List.{List, [], _∷_, _++_, append-assoc, map, map-append}
-use Prim.Native.Nat.{ℕ, suc, _+_, _*_, _-_, _≤_, _<_, min}
+use Prim.Native.Nat.{ℕ, _+_, _*_, _-_, _≤_, _<_, min}
 use native.Mathlib.Omega.{arith}
-use native.Mathlib.Nat.{add-zero}
-use native.Mathlib.Decide.{decLe}
-use lib.ListN.{length, getD, take, drop, set, length-append, length-set, length-take, length-replicate, drop-of-length-le, length-map}
-use lib.Seq.{sets, slice, take-nil, drop-nil, take-all, take-append-le, drop-append-le}
+use lib.ListN.{length, getD, take, drop, set, length-append, length-set, length-replicate, length-map}
+use lib.Seq.{sets, slice, length-sets, take-at}
 use Rattle.bits.specs.Bits.{count}
-use Rattle.fibonacci.specs.Code.{sum, ones, value, first, number}
+use Rattle.bits.proofs.Lists.{sets-snoc}
+use Rattle.fibonacci.specs.Code.{sum, ones, value, first, number, codeword}
 use Rattle.fibonacci.specs.Encoding.{rowBits, parsed, codewords, rest, parse, numbers}
 use Rattle.fibonacci.specs.Tables.{Order}
 use Rattle.fibonacci.specs.Calls.{accepted, refused, isNumber, Legal, largest, longest}
 use Rattle.fibonacci.proofs.Lookup.{first-few}
-use Rattle.fibonacci.proofs.Checks.{number-is}
-use Rattle.fibonacci.proofs.Rows.{numbers-bits}
+use Rattle.fibonacci.proofs.Checks.{number-is, positive}
+use Rattle.fibonacci.proofs.Sums.{slice-most, slice-more}
+use Rattle.fibonacci.proofs.Rows.{row-numbers, bits-parse, bits-numbers, numbers-bits}
 use Rattle.fibonacci.proofs.Numbers.{first-rises, value-append, number-of}
-use Rattle.decoder.proofs.Reached.{Reached, reached-start, reached-numbers, reached-zero, reached-one, reached-full, reached-end}
+use Rattle.decoder.proofs.Reached.{Reached, reached-numbers, reached-zero, reached-one, reached-full, reached-end}
 use Rattle.fibonacci.proofs.Each.{all-append}
 use Rattle.decoder.proofs.Checking.{Padding, padding-is, padding-not, contents-many, contents-large, contents-rest, contents-good, Numbered, numbered-legal, numbered-large}
+use Rattle.word_decoder.specs.declared.Front.{Front}
+use Rattle.word_decoder.specs.Words.{Begun, Spanned}
 use Rattle.decoder.specs.Answers.{found}
 use Rattle.decoder.specs.Reading.{contents}
-
--- ## Lists
-
-sets-snoc : {A : Type 0} (l : List A) (i : ℕ) (xs : List A) (x : A) → sets l i (xs ++ (x ∷ [])) ≡ set (sets l i xs) (i + length xs) x
-sets-snoc l i [] x = ap (λ (k : ℕ). set l k x) (sym (add-zero i))
-sets-snoc l i (y ∷ xs) x =
-    let e : suc i + length xs ≡ i + suc (length xs) = omega arith in
-    sets-snoc (set l i y) (suc i) xs x ∙ ap (λ (k : ℕ). set (sets (set l i y) (suc i) xs) k x) e
-
-sum-snoc : (xs : List ℕ) (x : ℕ) → sum (xs ++ (x ∷ [])) ≡ sum xs + x
-sum-snoc [] x = omega arith
-sum-snoc (y ∷ xs) x = omega (arith, sum-snoc xs x)
-
--- a number more counts in the sum where its place is one of those asked for
-module _ (from to : ℕ) (xs : List ℕ) (x : ℕ) where
-  long : length (xs ++ (x ∷ [])) ≡ length xs + 1
-  long = length-append xs (x ∷ [])
-
-  slice-inside : from ≤ length xs → length xs < to → sum (slice from to (xs ++ (x ∷ []))) ≡ sum (slice from to xs) + x
-  slice-inside f t =
-      rw (take-all to (xs ++ (x ∷ [])) (omega (arith, long)), take-all to xs (omega arith), drop-append-le from xs (x ∷ []) f) (sum-snoc (drop from xs) x)
-
-  slice-before : length xs < from → sum (slice from to (xs ++ (x ∷ []))) ≡ sum (slice from to xs)
-  slice-before f =
-      let none : (l : List ℕ) → length l ≤ from → slice from to l ≡ [] = λ l h. drop-of-length-le (take to l) {i = from} (omega (arith, length-take to l)) in
-      rw (none (xs ++ (x ∷ [])) (omega (arith, long)), none xs (omega arith)) refl
-
-  slice-after : to ≤ length xs → sum (slice from to (xs ++ (x ∷ []))) ≡ sum (slice from to xs)
-  slice-after t = rw (take-append-le to xs (x ∷ []) t) refl
-
-  slice-more : (old new count : ℕ) → length xs ≡ count → old ≡ sum (slice from to xs)
-      → (from ≤ count → count < to → new ≡ old + x) → (count < from → new ≡ old) → (to ≤ count → new ≡ old)
-      → (new ≡ sum (slice from to (xs ++ (x ∷ [])))) × (new ≤ old + x)
-  slice-more old new count l is inside before after =
-      elim (decLe from count) [
-        | yes f ↦
-            elim (decLe to count) [
-              | yes t ↦ (omega (arith, after t, slice-after (omega arith)), omega (arith, after t))
-              | no t ↦ let e = inside f (omega arith) in (omega (arith, slice-inside (omega arith) (omega arith)), omega arith)
-            ]
-        | no f ↦ let e = before (omega arith) in (omega (arith, slice-before (omega arith)), omega arith)
-      ]
 
 -- ## Pending bits
 
@@ -72,11 +32,20 @@ value-zero : (m : ℕ) (stem : List Bool) (run : ℕ) → value m 1 (stem ++ (on
 unfolding value
 value-zero m stem run = omega (arith, value-append m 1 stem (ones run ++ (false ∷ [])), value-append m (1 + length stem) (ones run) (false ∷ []))
 
+-- ## What words took
+
+-- the first numbers of the bits
+pub begun-numbers : (m limit : ℕ) (b : List Bool) (f : Front) (row : List ℕ) → 1 ≤ m → Begun m limit b f row → row ≡ take (f .count) (numbers m b)
+begun-numbers m limit b f row p g =
+    let t = g .taken in
+    sym (ap (take (f .count)) (ap (numbers m) (t .bits) ∙ bits-numbers m row (drop (f .bit) b) p (positive limit row (t .legal)))
+    ∙ take-at row (numbers m (drop (f .bit) b)) (f .count) (g .many))
+
 -- ## What the loop keeps
 
--- After k bits of b: the numbers that ended are legal, stored and summed, and what is pending is known by its length, its value, as far as a number
+-- After k bits of b, of which words took count₀ numbers: the numbers that ended are legal, stored and summed, and what is pending is known by its length, its value, as far as a number
 -- of that length can be legal, and its ones
-pub record Walked (m limit from to : ℕ) (b : List Bool) (row₀ : List ℕ) (k : ℕ) (row : List ℕ) (count total len val run : ℕ) : Type 0 where
+pub record Walked (m limit from to : ℕ) (b : List Bool) (row₀ : List ℕ) (count₀ k : ℕ) (row : List ℕ) (count total len val run : ℕ) : Type 0 where
   pub words : List (List Bool)
   pub stem : List Bool
   pub reached : Reached m b k words stem run
@@ -84,7 +53,7 @@ pub record Walked (m limit from to : ℕ) (b : List Bool) (row₀ : List ℕ) (k
   pub most : count ≤ longest
   pub legal : Legal limit (map (number m) words)
   pub sized : length row ≡ length row₀
-  pub stored : count ≤ length row₀ → row ≡ sets row₀ 0 (map (number m) words)
+  pub stored : (over : List ℕ) → row₀ ≡ sets over 0 (take count₀ (numbers m b)) → count ≤ length over → row ≡ sets over 0 (map (number m) words)
   pub summed : total ≡ sum (slice from to (map (number m) words))
   pub little : total ≤ largest * count
   pub long : length stem ≡ len
@@ -92,28 +61,33 @@ pub record Walked (m limit from to : ℕ) (b : List Bool) (row₀ : List ℕ) (k
   pub worth : first m len ≤ largest → val ≡ value m 1 stem
   pub small : val ≤ largest * k
 
-pub walked-start : (m limit from to : ℕ) (b : List Bool) (row₀ : List ℕ) → 1 ≤ m → Walked m limit from to b row₀ 0 row₀ 0 0 0 0 0
+-- where words left off
+pub walked-start : (m limit from to : ℕ) (b : List Bool) (f : Front) (row₀ : List ℕ) → 1 ≤ m → limit ≤ largest → Spanned m limit from to b f
+    → Walked m limit from to b row₀ (f .count) (f .bit) row₀ (f .count) (f .sum) 0 0 0
 unfolding value
-walked-start m limit from to b row₀ p =
+walked-start m limit from to b f row₀ p top g =
+    let t = g .begun .taken in
+    let pos = positive limit (g .row) (t .legal) in
+    let same : map (number m) (map (codeword m) (g .row)) ≡ g .row = row-numbers m (g .row) p pos in
     record {
-      words = [];
+      words = map (codeword m) (g .row);
       stem = [];
-      reached = reached-start m b p;
-      many = refl;
-      most = omega arith;
-      legal = tt;
+      reached = record { left = ap (parse m) (t .bits) ∙ bits-parse m (g .row) (drop (f .bit) b) p pos; few = p };
+      many = length-map (g .row) (codeword m) ∙ g .begun .many;
+      most = g .begun .most;
+      legal = rw same (t .legal);
       sized = refl;
-      stored = λ h. refl;
-      summed = ap sum (sym (ap (drop from) (take-nil to) ∙ drop-nil from));
-      little = omega arith;
+      stored = λ over e h. e ∙ ap (sets over 0) (sym (begun-numbers m limit b f (g .row) p (g .begun)) ∙ sym same);
+      summed = g .total ∙ ap (λ (l : List ℕ). sum (slice from to l)) (sym same);
+      little = omega (arith, g .total, slice-most limit top (g .row) from to (t .legal), g .begun .many);
       long = refl;
       held = omega arith;
       worth = λ h. refl;
       small = omega arith;
     }
 
-module _ {m limit from to : ℕ} {b : List Bool} {row₀ : List ℕ} {k : ℕ} {row : List ℕ} {count total len val run : ℕ}
-    (w : Walked m limit from to b row₀ k row count total len val run) where
+module _ {m limit from to : ℕ} {b : List Bool} {row₀ : List ℕ} {count₀ k : ℕ} {row : List ℕ} {count total len val run : ℕ}
+    (w : Walked m limit from to b row₀ count₀ k row count total len val run) where
   -- the codeword that a one ends
   ended : List Bool
   ended = w .stem ++ ones m
@@ -127,7 +101,7 @@ module _ {m limit from to : ℕ} {b : List Bool} {row₀ : List ℕ} {k : ℕ} {
 
   module _ (h : k < length b) where
     pub walked-zero : (x : ℕ) → getD b k false ≡ false → (first m (len + run + 1) ≤ largest → x ≡ value m (len + 1) (ones run)) → x ≤ largest
-        → Walked m limit from to b row₀ (k + 1) row count total (len + (run + 1)) (val + x) 0
+        → Walked m limit from to b row₀ count₀ (k + 1) row count total (len + (run + 1)) (val + x) 0
     walked-zero x e is few =
         record {
           words = w .words;
@@ -150,7 +124,7 @@ module _ {m limit from to : ℕ} {b : List Bool} {row₀ : List ℕ} {k : ℕ} {
           small = omega (arith, w .small, few);
         }
 
-    pub walked-one : getD b k false ≡ true → (run + 1 ≡ m → ⊥) → Walked m limit from to b row₀ (k + 1) row count total len val (run + 1)
+    pub walked-one : getD b k false ≡ true → (run + 1 ≡ m → ⊥) → Walked m limit from to b row₀ count₀ (k + 1) row count total len val (run + 1)
     walked-one e more =
         record {
           words = w .words;
@@ -194,7 +168,7 @@ module _ {m limit from to : ℕ} {b : List Bool} {row₀ : List ℕ} {k : ℕ} {
 
         pub walked-full : (total' : ℕ) → (count ≡ longest → ⊥) → limit ≤ largest → isNumber limit n ≡ true
             → (from ≤ count → count < to → total' ≡ total + n) → (count < from → total' ≡ total) → (to ≤ count → total' ≡ total)
-            → Walked m limit from to b row₀ (k + 1) (set row (min count (length row - 1)) n) (count + 1) total' 0 0 0
+            → Walked m limit from to b row₀ count₀ (k + 1) (set row (min count (length row - 1)) n) (count + 1) total' 0 0 0
         walked-full total' less top l inside before after =
             let done : List ℕ = map (number m) (w .words) in
             let same : n ≡ number m ended = numbered-legal m len val n is (number m ended) ended-near ended-far limit top l in
@@ -211,9 +185,10 @@ module _ {m limit from to : ℕ} {b : List Bool} {row₀ : List ℕ} {k : ℕ} {
               most = omega (arith, w .most);
               legal = rw ns (all-append (λ n. isNumber limit n ≡ true) done (n ∷ []) (w .legal) (l, tt));
               sized = length-set row (min count (length row - 1)) n ∙ w .sized;
-              stored = λ h.
-                  let place : min count (length row - 1) ≡ count = omega (arith, w .sized) in
-                  rw (place, ns, sets-snoc row₀ 0 done n, at, ← w .stored (omega arith)) refl;
+              stored = λ over e h.
+                  let place : min count (length row - 1) ≡ count =
+                  omega (arith, w .sized, ap length e, length-sets over 0 (take count₀ (numbers m b))) in
+                  rw (place, ns, sets-snoc over 0 done n, at, ← w .stored over e (omega arith)) refl;
               summed = rw ns (more .0);
               little = omega (arith, more .1, w .little, number-is limit n l);
               long = refl;
@@ -241,8 +216,8 @@ module _ {m limit from to : ℕ} {b : List Bool} {row₀ : List ℕ} {k : ℕ} {
     far : 8 ≤ len → 8 ≤ length (w .stem)
     far l = omega (arith, w .long)
 
-    pub walked-stored : length done ≤ length row₀ → row ≡ sets row₀ 0 done
-    walked-stored h = w .stored (omega (arith, done-long))
+    pub walked-kept : (over : List ℕ) → length done ≤ length over → row₀ ≡ sets over 0 (take count₀ (numbers m b)) → row ≡ sets over 0 done
+    walked-kept over h e = w .stored over e (omega (arith, done-long))
 
     pub walked-padding : Padding len val run ≡ true → contents limit m b ≡ accepted done
     walked-padding e =

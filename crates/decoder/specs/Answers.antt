@@ -1,11 +1,12 @@
 -- The answers of the functions as paper 01's numbers and values, and what the scan that they share finds.
 use mathlib.Core.Path.{_≡_}
+use mathlib.Core.Bool.{Bool}
 use mathlib.Core.List.{List}
 use Prim.Native.Nat.{ℕ, _≤_}
-use lib.ListN.{length}
+use lib.ListN.{length, take}
 use lib.Seq.{sets, slice}
 use Rattle.fibonacci.specs.Code.{sum}
-use Rattle.fibonacci.specs.Encoding.{rowBits}
+use Rattle.fibonacci.specs.Encoding.{rowBits, numbers}
 use Rattle.fibonacci.specs.Calls.{Outcome, accepted, refused}
 use Rattle.decoder.specs.Reading.{read, readInto}
 use Rattle.decoder.specs.declared.Refusal.{Refusal}
@@ -50,3 +51,9 @@ found m from to row = record { count = length row; bits = length (rowBits m row)
 abbrev pub Stored : Outcome (List ℕ) → List ℕ → List ℕ → Type 0
 Stored (accepted row) before after = length row ≤ length before → after ≡ sets before 0 row
 Stored (refused number place) before after = Unit {0}
+
+-- The same of a scan that began with the first `count` numbers of b, which were stored over some list
+abbrev pub Kept : ℕ → List Bool → ℕ → Outcome (List ℕ) → List ℕ → List ℕ → Type 0
+Kept m b count (accepted row) before after =
+    (over : List ℕ) → length row ≤ length over → before ≡ sets over 0 (take count (numbers m b)) → after ≡ sets over 0 row
+Kept m b count (refused number place) before after = Unit {0}

@@ -1,15 +1,21 @@
-// Reading an encoding of order 2 to 6, bit by bit, and the scan that totals and appending share with it.
+// Reading an encoding of order 2 to 6: by words as far as they go, and then bit by bit; and the scan that totals and appending share with it.
 ghost use mathlib.Core.Path.{_≡_};
 ghost use mathlib.Core.Bool.{_&&_};
 ghost use Prim.Native.Nat.{_+_, _-_, _*_, _^_, _≤_, _<_, min};
 ghost use lib.Dec.{eqb, ltb};
-ghost use lib.ListN.{length, set};
+ghost use lib.ListN.{length, take, set};
+ghost use lib.Seq.{sets};
 ghost use Rattle.bits.specs.Bits.{unpack};
 ghost use Rattle.fibonacci.specs.Code.{ones, value, first};
+ghost use Rattle.fibonacci.specs.Encoding.{numbers};
 ghost use Rattle.fibonacci.specs.Tables.{Order, tableRow};
-ghost use Rattle.fibonacci.specs.Calls.{accepted, andThen, largest, longest};
+ghost use Rattle.fibonacci.specs.Calls.{accepted, andThen, largest, longest, mostBytes};
+ghost use Rattle.word_decoder.specs.Words.{Spanned};
 ghost use Rattle.decoder.specs.Reading.{contents, decode};
-ghost use Rattle.decoder.specs.Answers.{ReadPromise, scanOutcome, found, Stored};
+ghost use Rattle.decoder.specs.Answers.{ReadPromise, scanOutcome, found, Stored, Kept};
+
+// So many bytes are read by words, and fewer bit by bit.
+const WORDS_FROM: usize = 17;
 
 // Why an encoding is not read. The numbers are paper 01's.
 pub enum Refusal {
@@ -99,27 +105,29 @@ pub fn is_padding(len: usize, val: u64, run: usize) -> bool
     len < 8 && (val == 0 && run == 0)
 }
 
-// The scan after the checks of order and length, bit by bit. Pending are `len` bits, the last of them a zero, whose value is `val`, and then `run` ones. The
-// numbers go up to a limit. The row is stored; where the list is too short for it, the list is of no use then.
-fn walk(
+// The scan bit by bit, from where codewords were taken by words. Pending are `len` bits, the last of them a zero, whose value is `val`, and then `run` ones.
+// The numbers go up to a limit. They are stored; where the list is too short for the row, the list is of no use then.
+fn walk_bits(
     firsts: &[u32; 47],
     order: usize,
     s: &[u8],
     limit: u64,
     from: usize,
     to: usize,
+    at: word_decoder::Front,
     row: &mut [u32],
 ) -> ScanAnswer
-    requires { ⌜ Order order × (now firsts ≡ tableRow (first order)) × (length (now s) < 2 ^ 28) × (limit ≤ largest) × (1 ≤ length (now row)) ⌝ }
-    ensures { λ r. ⌜ (scanOutcome r ≡ andThen (contents limit order (unpack (now (s .entry)))) (λ row. accepted (found order from to row))) × Stored (contents limit order (unpack (now (s .entry)))) (now (row .entry)) (now (row .exit)) ⌝ }
+    requires { ⌜ Order order × (now firsts ≡ tableRow (first order)) × (length (now s) < 2 ^ 28) × (limit ≤ largest) × (1 ≤ length (now row)) × Spanned order limit from to (unpack (now s)) at ⌝ }
+    ensures { λ r. ⌜ (scanOutcome r ≡ andThen (contents limit order (unpack (now (s .entry)))) (λ row. accepted (found order from to row))) × Kept order (unpack (now (s .entry))) (at .count) (contents limit order (unpack (now (s .entry)))) (now (row .entry)) (now (row .exit)) ⌝ }
 {
     let end = 8 * s.len();
-    let mut count: usize = 0;
-    let mut sum: u64 = 0;
+    let start = at.bit;
+    let mut count = at.count;
+    let mut sum = at.sum;
     let mut len: usize = 0;
     let mut val: u64 = 0;
     let mut run: usize = 0;
-    for k in 0..end {
+    for k in start..end {
         if bits::bit(s, k) {
             run += 1;
             if run == order {
@@ -153,10 +161,65 @@ fn walk(
     })
 }
 
+// How many numbers so many bytes hold at most: no codeword is shorter than two bits.
+fn most_numbers(bytes: usize) -> usize
+    ensures { λ r. ⌜ r ≡ min longest (4 * bytes) ⌝ }
+{
+    if bytes < 1024 {
+        4 * bytes
+    } else {
+        fibonacci::LONGEST
+    }
+}
+
+// The codewords that words take. Where a sum is asked for, or the list has no room for every row, their numbers are summed, else stored. Few bytes are read
+// sooner bit by bit than a table of values is made.
+fn take_words(
+    firsts: &[u32; 47],
+    order: usize,
+    s: &[u8],
+    limit: u64,
+    from: usize,
+    to: usize,
+    row: &mut [u32],
+) -> word_decoder::Front
+    requires { ⌜ Order order × (now firsts ≡ tableRow (first order)) × (length (now s) ≤ mostBytes) × (limit ≤ largest) ⌝ }
+    ensures { λ r. ⌜ Spanned order limit from to (unpack (now (s .entry))) r × (to ≡ 0 → min longest (4 * length (now (s .entry))) ≤ length (now (row .entry)) → now (row .exit) ≡ sets (now (row .entry)) 0 (take (r .count) (numbers order (unpack (now (s .entry)))))) ⌝ }
+{
+    if s.len() < WORDS_FROM {
+        return word_decoder::Front {
+            bit: 0,
+            count: 0,
+            sum: 0,
+        };
+    }
+    if to == 0 && most_numbers(s.len()) <= row.len() {
+        return word_decoder::take_row(firsts, order, s, limit, row);
+    }
+    word_decoder::take_span(firsts, order, s, limit, from, to)
+}
+
+// The scan after the checks of order and length: by words, and then bit by bit.
+fn walk(
+    firsts: &[u32; 47],
+    order: usize,
+    s: &[u8],
+    limit: u64,
+    from: usize,
+    to: usize,
+    row: &mut [u32],
+) -> ScanAnswer
+    requires { ⌜ Order order × (now firsts ≡ tableRow (first order)) × (length (now s) ≤ mostBytes) × (limit ≤ largest) × (1 ≤ length (now row)) ⌝ }
+    ensures { λ r. ⌜ (scanOutcome r ≡ andThen (contents limit order (unpack (now (s .entry)))) (λ row. accepted (found order from to row))) × (to ≡ 0 → min longest (4 * length (now (s .entry))) ≤ length (now (row .entry)) → Stored (contents limit order (unpack (now (s .entry)))) (now (row .entry)) (now (row .exit))) ⌝ }
+{
+    let at = take_words(firsts, order, s, limit, from, to, row);
+    walk_bits(firsts, order, s, limit, from, to, at, row)
+}
+
 // The scan of an encoding: its checks, and what it finds. The row goes to a list of the caller's own.
 fn scan_into(order: usize, s: &[u8], from: usize, to: usize, row: &mut [u32]) -> ScanAnswer
     requires { ⌜ 1 ≤ length (now row) ⌝ }
-    ensures { λ r. ⌜ (scanOutcome r ≡ andThen (decode order (now (s .entry))) (λ row. accepted (found order from to row))) × Stored (decode order (now (s .entry))) (now (row .entry)) (now (row .exit)) ⌝ }
+    ensures { λ r. ⌜ (scanOutcome r ≡ andThen (decode order (now (s .entry))) (λ row. accepted (found order from to row))) × (to ≡ 0 → min longest (4 * length (now (s .entry))) ≤ length (now (row .entry)) → Stored (decode order (now (s .entry))) (now (row .entry)) (now (row .exit))) ⌝ }
 {
     if !fibonacci::is_order(order) {
         return ScanAnswer::Refused(Refusal::Order);

@@ -1,4 +1,4 @@
-use mathlib.Core.Path.{_≡_, ap, _∙_}
+use mathlib.Core.Path.{_≡_, refl, ap, _∙_}
 use mathlib.Core.List.{List, _++_}
 use Prim.Native.Nat.{ℕ, _≤_}
 use native.Mathlib.Omega.{arith}
@@ -32,7 +32,7 @@ held c =
     let r = row-of c in
     let d = decode-is _ _ (r .0) (r .1) in
     let room : length (r .0) ≤ length (start .args .row .now) = omega (arith, d .long, decode-few _ _ (r .0) d, start .pre .1) in
-    let st = stored-row _ (start .args .row .now) _ (r .0) (c .before .before .before .before .scan-into .ensures .1) (r .1) room in
+    let st = stored-row _ (start .args .row .now) _ (r .0) (c .before .before .before .before .scan-into .ensures .1 refl (start .pre .1)) (r .1) room in
     (room, st .0, st .1)
 
 -- why the scan refused

@@ -11,11 +11,11 @@ is-order-requires : tie.Need-is-order-requires
 is-order-requires c κs = search needs
 
 returns : tie.Need-returns
-returns c = rw (decode-order _ _ (sym (c .before .is-order .ensures) ∙ not-true _ (c .if1 .taken))) (refl, tt)
+returns c = rw (decode-order _ _ (sym (c .before .is-order .ensures) ∙ not-true _ (c .if1 .taken))) (refl, λ z h. tt)
 
 returns-2 : tie.Need-returns-2
 returns-2 c =
-    rw (decode-long _ (c .before .before .before .before .before .args .s .now) (sym (c .before .before .is-order .ensures) ∙ not-false _ (c .before .if1 .left)) (omega arith)) (refl, tt)
+    rw (decode-long _ (c .before .before .before .before .before .args .s .now) (sym (c .before .before .is-order .ensures) ∙ not-false _ (c .before .if1 .left)) (omega arith)) (refl, λ z h. tt)
 
 first-numbers-requires : tie.Need-first-numbers-requires
 first-numbers-requires c κs = order-is _ (sym (c .before .before .is-order .ensures) ∙ not-false _ (c .before .if1 .left))
@@ -23,7 +23,7 @@ first-numbers-requires c κs = order-is _ (sym (c .before .before .is-order .ens
 walk-requires : tie.Need-walk-requires
 walk-requires c κs =
     let e = c .before .before .before in
-    (order-is _ (sym (e .before .before .is-order .ensures) ∙ not-false _ (e .before .if1 .left)), c .before .before .first-numbers .ensures, omega (arith, e .if2 .left), omega arith, e .before .before .before .before .before .pre)
+    (order-is _ (sym (e .before .before .is-order .ensures) ∙ not-false _ (e .before .if1 .left)), c .before .before .first-numbers .ensures, e .if2 .left, omega arith, e .before .before .before .before .before .pre)
 
 same-length : tie.Need-same-length
 same-length c = search needs
