@@ -19,6 +19,8 @@ mod listing;
 mod random;
 #[path = "differ/text.rs"]
 mod text;
+#[path = "differ/words.rs"]
+mod words;
 
 use border::Border;
 use codec::Codec;
@@ -60,6 +62,7 @@ fn fixed(border: &mut Border, ledger: &mut Ledger) {
     let mut codec = Codec { border, ledger, random: &mut random };
     codec.small_strings();
     codec.limits();
+    codec.words();
     let mut indexing = Indexing { border, ledger, random: &mut random };
     indexing.small_rows();
     indexing.limits();

@@ -31,7 +31,7 @@ impl Codec<'_> {
         self.ledger.compare("write", &a.number.to_string(), &called, two(&a), &output, arguments);
     }
 
-    fn read(&mut self, order: usize, s: &[u8], out: &[u32]) {
+    pub fn read(&mut self, order: usize, s: &[u8], out: &[u32]) {
         let called = self.border.read(order, s, out);
         let mut output = out.to_vec();
         let a = model::read(order as u64, s, &mut output);
@@ -39,7 +39,7 @@ impl Codec<'_> {
         self.ledger.compare("read", &a.number.to_string(), &called, one(&a), &output, arguments);
     }
 
-    fn table_read(&mut self, s: &[u8], out: &[u32]) {
+    pub fn table_read(&mut self, s: &[u8], out: &[u32]) {
         let called = self.border.table_read(s, out);
         let mut output = out.to_vec();
         let a = model::table_read(s, &mut output);
@@ -55,7 +55,7 @@ impl Codec<'_> {
         self.ledger.compare("table_read_bytes", &a.number.to_string(), &called, one(&a), &output, arguments);
     }
 
-    fn append(&mut self, order: usize, buf: &[u8], used: usize, n: u32) -> Called<u8> {
+    pub fn append(&mut self, order: usize, buf: &[u8], used: usize, n: u32) -> Called<u8> {
         let called = self.border.append(order, buf, used, n);
         let mut output = buf.to_vec();
         let a = model::append(order as u64, &mut output, used as u64, n);
@@ -67,14 +67,14 @@ impl Codec<'_> {
         called
     }
 
-    fn total(&mut self, order: usize, s: &[u8], from: usize, to: usize) {
+    pub fn total(&mut self, order: usize, s: &[u8], from: usize, to: usize) {
         let called = self.border.total(order, s, from, to);
         let a = model::total(order as u64, s, from as u64, to as u64);
         let arguments = || format!("total(order {order}, s {}, a {from}, b {to})", bytes(s));
         self.ledger.compare("total", &a.number.to_string(), &called, one(&a), &[], arguments);
     }
 
-    fn repeated_total(&mut self, order: usize, s: &[u8], repeats: u64) {
+    pub fn repeated_total(&mut self, order: usize, s: &[u8], repeats: u64) {
         let called = self.border.repeated_total(order, s, repeats);
         let a = model::repeated_total(order as u64, s, repeats);
         let arguments = || format!("repeated_total(order {order}, s {}, repeats {repeats})", bytes(s));
@@ -84,7 +84,7 @@ impl Codec<'_> {
     // ---- What the library says twice ----
 
     /// The two readers answer the same and leave the same; into bytes, the same four bytes for each number.
-    fn readers(&mut self, s: &[u8], out: &[u32]) {
+    pub fn readers(&mut self, s: &[u8], out: &[u32]) {
         let by_bits = self.border.read(3, s, out);
         let by_bytes = self.border.table_read(s, out);
         let arguments = || format!("s {}, out {}", bytes(s), numbers(out));
