@@ -10,46 +10,44 @@
 static struct times groups[GROUPS_MOST];
 static size_t group_count;
 
-/* A side beside another: the ratio to reach on rows of 4,096 numbers, or on encodings of two bytes, 0 where none is asked for. */
+/* A side beside another, and the ratio to reach for each kind of numbers (geometric, to 1,000, to 2^32-1, ..), 0 where none is asked for: on rows of 4,096
+   numbers, or on encodings of two bytes. */
 struct pair {
     enum side side, other;
-    double at_most;
+    double at_most[TWO_BYTES + 1];
 };
 
 static const struct pair pairs[] = {
-    {TABLE_READ, PLAIN_TABLE_READ, 1.1},
-    {TABLE_READ, PLAIN_READ, 0.2},
-    {TABLE_READ_BYTES, PLAIN_TABLE_READ, 0},
-    {READ, PLAIN_READ, 1.2},
-    {READ, SDSL_DECODE, 0},
-    {WRITE, PLAIN_WRITE, 0.5},
-    {WRITE, SDSL_ENCODE, 1.0},
-    {APPEND, READ, 1.1},
-    {APPEND, PLAIN_APPEND, 0},
-    {TOTAL, READ, 1.0},
-    {REPEATED_TOTAL, READ, 1.0},
-    {TOTAL, PLAIN_TOTAL, 0},
-    {REPEATED_TOTAL, PLAIN_REPEATED_TOTAL, 0},
-    {TOTAL, SDSL_SUM, 0},
-    {BUILD, PLAIN_BUILD, 1.5},
-    {BUILD, HUFF_BUILD, 0},
-    {BUILD, INT_BUILD, 0},
-    {EXTRACT, PLAIN_EXTRACT, 1.5},
-    {EXTRACT, HUFF_EXTRACT, 0},
-    {EXTRACT, INT_EXTRACT, 0},
-    {RANK, PLAIN_RANK, 1.5},
-    {RANK, HUFF_RANK, 0},
-    {RANK, INT_RANK, 0},
-    {SELECT, PLAIN_SELECT, 1.5},
-    {SELECT, HUFF_SELECT, 0},
-    {SELECT, INT_SELECT, 0},
-    {LISTING, PLAIN_LISTING, 0},
+    {TABLE_READ, PLAIN_TABLE_READ, {1.1, 1.1, 1.1}},
+    {TABLE_READ, PLAIN_READ, {0.2, 0.2, 0.2, [TWO_BYTES] = 4}},
+    {TABLE_READ_BYTES, PLAIN_TABLE_READ, {0}},
+    {READ, PLAIN_READ, {0.3, 0.2, 0.1, [TWO_BYTES] = 5}},
+    {READ, SDSL_DECODE, {1.3, 1.0, 0.7}},
+    {WRITE, PLAIN_WRITE, {0.5, 0.5, 0.5}},
+    {WRITE, SDSL_ENCODE, {1.0, 1.0, 1.0}},
+    {APPEND, READ, {1.1, 1.1, 1.1}},
+    {APPEND, PLAIN_APPEND, {0}},
+    {TOTAL, READ, {0.95, 0.95, 0.95}},
+    {REPEATED_TOTAL, READ, {1.0, 1.0, 1.0}},
+    {TOTAL, PLAIN_TOTAL, {0}},
+    {REPEATED_TOTAL, PLAIN_REPEATED_TOTAL, {0}},
+    {TOTAL, SDSL_SUM, {0}},
+    {BUILD, PLAIN_BUILD, {[TO_256] = 1.5}},
+    {BUILD, HUFF_BUILD, {0}},
+    {BUILD, INT_BUILD, {0}},
+    {EXTRACT, PLAIN_EXTRACT, {[TO_256] = 1.5}},
+    {EXTRACT, HUFF_EXTRACT, {0}},
+    {EXTRACT, INT_EXTRACT, {0}},
+    {RANK, PLAIN_RANK, {[TO_256] = 1.5}},
+    {RANK, HUFF_RANK, {0}},
+    {RANK, INT_RANK, {0}},
+    {SELECT, PLAIN_SELECT, {[TO_256] = 1.5}},
+    {SELECT, HUFF_SELECT, {0}},
+    {SELECT, INT_SELECT, {0}},
+    {LISTING, PLAIN_LISTING, {0}},
 };
 
 #define PAIRS (sizeof pairs / sizeof *pairs)
-
-/* What the byte reader has to reach on encodings of two bytes. */
-static const struct pair two_bytes = {TABLE_READ, PLAIN_READ, 4};
 
 static const char *const kind_names[] = {
     [GEOMETRIC] = "geometric",
@@ -97,13 +95,21 @@ static int reached(double r, double at_most)
     return r < at_most + 0.005;
 }
 
-/* The worst ratio of a pair over the orders, and its group. */
-static double worst(struct pair p, enum kind kind, size_t count, const struct times **where)
+/* The first order in which a pair has a ratio to reach: in order 2 read has SDSL's decode beside it, and not the plain reader. */
+static size_t first_order(struct pair p)
+{
+    return p.side == READ && p.other == PLAIN_READ ? 3 : 2;
+}
+
+/* The worst ratio of a pair over the orders, where there is one to reach, and its group. */
+static double worst(struct pair p, enum kind kind, const struct times **where)
 {
     double most = 0;
 
-    for (size_t order = 2; order <= 6; order++) {
-        const struct times *t = find(order, kind, count);
+    if (p.at_most[kind] == 0)
+        return 0;
+    for (size_t order = first_order(p); order <= 6; order++) {
+        const struct times *t = find(order, kind, kind == TWO_BYTES ? 4 : 4096);
         if (ratio(t, p) > most) {
             most = ratio(t, p);
             *where = t;
@@ -114,26 +120,24 @@ static double worst(struct pair p, enum kind kind, size_t count, const struct ti
 
 /* ## Tables */
 
-static void reach_line(struct pair p, enum kind kind, size_t count)
+static void reach_line(struct pair p, enum kind kind)
 {
     const struct times *t = NULL;
-    double r = worst(p, kind, count, &t);
+    double r = worst(p, kind, &t);
 
     if (t == NULL)
         return;
-    printf("| %s | %s | %s | %.2f | %.2f | order %zu | %s |\n", calls[p.side].name, calls[p.other].name, kind_names[kind], p.at_most, r, t->order,
-           reached(r, p.at_most) ? "yes" : "NO");
+    printf("| %s | %s | %s | %.2f | %.2f | order %zu | %s |\n", calls[p.side].name, calls[p.other].name, kind_names[kind], p.at_most[kind], r,
+           t->order, reached(r, p.at_most[kind]) ? "yes" : "NO");
 }
 
 static void print_reach(void)
 {
-    printf("## To reach\n\nThe worst ratio over the orders, proved side over the other, rows of 4,096 numbers.\n\n");
+    printf("## To reach\n\nThe worst ratio over the orders (of read beside plain C, over 3 to 6), proved side over the other, rows of 4,096 numbers.\n\n");
     printf("| operation | against | numbers | at most | measured | at | reached |\n|---|---|---|---|---|---|---|\n");
     for (size_t i = 0; i < PAIRS; i++)
-        for (enum kind kind = GEOMETRIC; kind <= TO_256; kind++)
-            if (pairs[i].at_most > 0)
-                reach_line(pairs[i], kind, 4096);
-    reach_line(two_bytes, TWO_BYTES, 4);
+        for (enum kind kind = GEOMETRIC; kind <= TWO_BYTES; kind++)
+            reach_line(pairs[i], kind);
 }
 
 /* A time with three digits or so, a ratio with two or more, and the length of a row, which is at most 4,096. */
@@ -175,11 +179,18 @@ static int by_call(enum side s)
     return s == EXTRACT || s == RANK || s == SELECT;
 }
 
+/* Whether both of a pair were measured, in some order. */
+static int measured(struct pair p, enum kind kind, size_t count)
+{
+    for (size_t order = 2; order <= 6; order++)
+        if (ratio(find(order, kind, count), p) > 0)
+            return 1;
+    return 0;
+}
+
 static void pair_line(struct pair p, enum kind kind, size_t count)
 {
-    const struct times *t = NULL;
-
-    if (worst(p, kind, count, &t) == 0)
+    if (!measured(p, kind, count))
         return;
     printf("| %s | %s | ", calls[p.side].name, calls[p.other].name);
     print_count(count);
@@ -260,19 +271,19 @@ static double x_of(double r)
     return LEFT + WIDTH * log2(at / LEAST) / log2(MOST / LEAST);
 }
 
-static void bar(FILE *f, struct pair p, enum kind kind, size_t count, int *line)
+static void bar(FILE *f, struct pair p, enum kind kind, int *line)
 {
     const struct times *t = NULL;
-    double r = worst(p, kind, count, &t);
+    double r = worst(p, kind, &t), at_most = p.at_most[kind];
 
     if (t == NULL)
         return;
     int y = 50 + LINE * (*line)++;
     fprintf(f, "<text x='%d' y='%d' text-anchor='end'>%s / %s, %s</text>\n", LEFT - 8, y + 11, calls[p.side].name, calls[p.other].name,
             kind_names[kind]);
-    fprintf(f, "<rect x='%d' y='%d' width='%.1f' height='12' fill='%s'/>\n", LEFT, y, x_of(r) - LEFT, reached(r, p.at_most) ? "#4a7ba6" : "#c0504d");
-    fprintf(f, "<line x1='%.1f' x2='%.1f' y1='%d' y2='%d' stroke='black' stroke-width='2'/>\n", x_of(p.at_most), x_of(p.at_most), y - 2, y + 14);
-    fprintf(f, "<text x='%.1f' y='%d'>%.2f</text>\n", x_of(r > p.at_most ? r : p.at_most) + 6, y + 11, r);
+    fprintf(f, "<rect x='%d' y='%d' width='%.1f' height='12' fill='%s'/>\n", LEFT, y, x_of(r) - LEFT, reached(r, at_most) ? "#4a7ba6" : "#c0504d");
+    fprintf(f, "<line x1='%.1f' x2='%.1f' y1='%d' y2='%d' stroke='black' stroke-width='2'/>\n", x_of(at_most), x_of(at_most), y - 2, y + 14);
+    fprintf(f, "<text x='%.1f' y='%d'>%.2f</text>\n", x_of(r > at_most ? r : at_most) + 6, y + 11, r);
 }
 
 static void axis(FILE *f, int height)
@@ -287,11 +298,11 @@ static void axis(FILE *f, int height)
 static int lines_of(void)
 {
     const struct times *t = NULL;
-    int n = worst(two_bytes, TWO_BYTES, 4, &t) > 0;
+    int n = 0;
 
     for (size_t i = 0; i < PAIRS; i++)
-        for (enum kind kind = GEOMETRIC; kind <= TO_256; kind++)
-            n += pairs[i].at_most > 0 && worst(pairs[i], kind, 4096, &t) > 0;
+        for (enum kind kind = GEOMETRIC; kind <= TWO_BYTES; kind++)
+            n += worst(pairs[i], kind, &t) > 0;
     return n;
 }
 
@@ -312,10 +323,8 @@ int report_picture(const char *folder)
             "Time of the proved side over the other's: rows of 4,096, the worst order; the mark is what it may be");
     axis(f, height);
     for (size_t i = 0; i < PAIRS; i++)
-        for (enum kind kind = GEOMETRIC; kind <= TO_256; kind++)
-            if (pairs[i].at_most > 0)
-                bar(f, pairs[i], kind, 4096, &line);
-    bar(f, two_bytes, TWO_BYTES, 4, &line);
+        for (enum kind kind = GEOMETRIC; kind <= TWO_BYTES; kind++)
+            bar(f, pairs[i], kind, &line);
     fprintf(f, "</svg>\n");
     return fclose(f) == 0;
 }

@@ -155,7 +155,7 @@ static int peer_right_row(struct input *in)
 static int text_there(struct input *in) { return result > in->lines; }
 
 const struct call calls[SIDES] = {
-    [READ] = {"read (bit reader)", run_read, right_row},
+    [READ] = {"read", run_read, right_row},
     [TABLE_READ] = {"table read (byte reader)", run_table_read, right_row},
     [TABLE_READ_BYTES] = {"table read for the host", run_table_read_bytes, right_row_bytes},
     [TOTAL] = {"total", run_total, right_total},
