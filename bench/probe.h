@@ -1,5 +1,5 @@
 /* The proved operations as the crate `probe` exports them. A slice is a pointer and a length; what a call answers goes to the last one:
-   paper 01's answer number, the place, and two results. */
+   paper 01's answer number, the place, and three results. */
 #ifndef PROBE_H
 #define PROBE_H
 

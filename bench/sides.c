@@ -7,7 +7,7 @@
 #define REPEATS 1000
 
 /* Where the results go: the answer of a proved operation, one number, numbers, bytes. */
-static uint64_t answer[4], result;
+static uint64_t answer[5], result;
 static size_t end;
 static uint32_t numbers[4096 + 4];
 static uint64_t wide_numbers[4096 + 4];
@@ -20,14 +20,14 @@ uint64_t answered(void)
 
 /* ## The proved operations */
 
-static void run_read(struct input *in) { probe_read(in->order, in->encoding, in->used, numbers, 4096, answer, 4); }
-static void run_table_read(struct input *in) { probe_table_read(in->encoding, in->used, numbers, 4096, answer, 4); }
-static void run_table_read_bytes(struct input *in) { probe_table_read_bytes(in->encoding, in->used, bytes, 4 * 4096, answer, 4); }
-static void run_total(struct input *in) { probe_total(in->order, in->encoding, in->used, 0, in->count, answer, 4); }
-static void run_repeated(struct input *in) { probe_repeated_total(in->order, in->encoding, in->used, REPEATS, answer, 4); }
-static void run_write(struct input *in) { probe_write(in->order, in->row, in->count, bytes, sizeof bytes, answer, 4); }
-static void run_build(struct input *in) { probe_build(in->order, ALPHABET, in->row, in->count, bytes, sizeof bytes, answer, 4); }
-static void run_listing(struct input *in) { probe_listing((const uint8_t *)in->text, 11 * in->lines, bytes, sizeof bytes, answer, 4); }
+static void run_read(struct input *in) { probe_read(in->order, in->encoding, in->used, numbers, 4096, answer, 5); }
+static void run_table_read(struct input *in) { probe_table_read(in->encoding, in->used, numbers, 4096, answer, 5); }
+static void run_table_read_bytes(struct input *in) { probe_table_read_bytes(in->encoding, in->used, bytes, 4 * 4096, answer, 5); }
+static void run_total(struct input *in) { probe_total(in->order, in->encoding, in->used, 0, in->count, answer, 5); }
+static void run_repeated(struct input *in) { probe_repeated_total(in->order, in->encoding, in->used, REPEATS, answer, 5); }
+static void run_write(struct input *in) { probe_write(in->order, in->row, in->count, bytes, sizeof bytes, answer, 5); }
+static void run_build(struct input *in) { probe_build(in->order, ALPHABET, in->row, in->count, bytes, sizeof bytes, answer, 5); }
+static void run_listing(struct input *in) { probe_listing((const uint8_t *)in->text, 11 * in->lines, bytes, sizeof bytes, answer, 5); }
 
 /* The encoding without its last number, as it was before that was appended. */
 static void take_off(struct input *in)
@@ -39,22 +39,22 @@ static void take_off(struct input *in)
 static void run_append(struct input *in)
 {
     take_off(in);
-    probe_append(in->order, in->shorter, 6 * in->count + 32, in->shorter_used, in->row[in->count - 1], answer, 4);
+    probe_append(in->order, in->shorter, 6 * in->count + 32, in->shorter_used, in->row[in->count - 1], answer, 5);
 }
 
 static void run_extract(struct input *in)
 {
-    probe_extract(in->order, ALPHABET, in->count, in->index, (in->index_bits + 7) / 8, in->place, answer, 4);
+    probe_extract(in->order, ALPHABET, in->count, in->index, (in->index_bits + 7) / 8, in->place, answer, 5);
 }
 
 static void run_rank(struct input *in)
 {
-    probe_rank(in->order, ALPHABET, in->count, in->index, (in->index_bits + 7) / 8, in->number, in->place, answer, 4);
+    probe_rank(in->order, ALPHABET, in->count, in->index, (in->index_bits + 7) / 8, in->number, in->place, answer, 5);
 }
 
 static void run_select(struct input *in)
 {
-    probe_select(in->order, ALPHABET, in->count, in->index, (in->index_bits + 7) / 8, in->number, in->use, answer, 4);
+    probe_select(in->order, ALPHABET, in->count, in->index, (in->index_bits + 7) / 8, in->number, in->use, answer, 5);
 }
 
 /* ## Plain C */

@@ -1,5 +1,5 @@
-// What a call answers as four numbers: paper 01's answer number, the place, and two results, which are zeros where there are none. The programs of cases
-// and the probes go by it.
+// What a call answers as five numbers: paper 01's answer number, the place, and three results, which are zeros where there are none. The console and the
+// probes go by it.
 ghost use mathlib.Core.Path.{_≡_};
 ghost use Rattle.fibonacci.specs.Calls.{accepted, refused};
 ghost use Rattle.decoder.specs.Answers.{refusal, readOutcome};
@@ -11,40 +11,43 @@ ghost use Rattle.wavelet_build.specs.Building.{buildOutcome};
 ghost use Rattle.wavelet_query.specs.Asking.{extractOutcome, rankOutcome};
 ghost use Rattle.wavelet_select.specs.Selecting.{selectOutcome};
 ghost use Rattle.listing_text.specs.Answers.{listingOutcome};
-ghost use Rattle.answers.specs.Answers.{four, single, values};
+ghost use Rattle.answers.specs.Answers.{five, single, pair, values};
 
 pub struct Answer {
     pub number: u64,
     pub place: u64,
     pub first: u64,
     pub second: u64,
+    pub third: u64,
 }
 
-pub fn accepted(first: u64, second: u64) -> Answer
-    ensures { λ r. ⌜ values r ≡ four (accepted (first, second)) ⌝ }
+pub fn accepted(first: u64, second: u64, third: u64) -> Answer
+    ensures { λ r. ⌜ values r ≡ five (accepted (first, second, third)) ⌝ }
 {
     Answer {
         number: 0,
         place: 0,
         first,
         second,
+        third,
     }
 }
 
 pub fn refused(number: u64, place: usize) -> Answer
-    ensures { λ r. ⌜ values r ≡ four (refused number place) ⌝ }
+    ensures { λ r. ⌜ values r ≡ five (refused number place) ⌝ }
 {
     Answer {
         number,
         place: place as u64,
         first: 0,
         second: 0,
+        third: 0,
     }
 }
 
 // Why an encoding is not read.
 fn unread(r: decoder::Refusal) -> Answer
-    ensures { λ x. ⌜ values x ≡ four (refusal r) ⌝ }
+    ensures { λ x. ⌜ values x ≡ five (refusal r) ⌝ }
 {
     match r {
         decoder::Refusal::Order => refused(1, 0),
@@ -57,7 +60,7 @@ fn unread(r: decoder::Refusal) -> Answer
 
 // Why there is no tree for an index.
 fn untreed(r: wavelet::Refusal) -> Answer
-    ensures { λ x. ⌜ values x ≡ four (treeRefusal r) ⌝ }
+    ensures { λ x. ⌜ values x ≡ five (treeRefusal r) ⌝ }
 {
     match r {
         wavelet::Refusal::Order => refused(1, 0),
@@ -67,10 +70,10 @@ fn untreed(r: wavelet::Refusal) -> Answer
 }
 
 pub fn of_write(a: encoder::WriteAnswer) -> Answer
-    ensures { λ r. ⌜ values r ≡ four (writeOutcome a) ⌝ }
+    ensures { λ r. ⌜ values r ≡ five (pair (writeOutcome a)) ⌝ }
 {
     match a {
-        encoder::WriteAnswer::Written { bytes, bits } => accepted(bytes as u64, bits as u64),
+        encoder::WriteAnswer::Written { bytes, bits } => accepted(bytes as u64, bits as u64, 0),
         encoder::WriteAnswer::Order => refused(1, 0),
         encoder::WriteAnswer::Count => refused(4, 0),
         encoder::WriteAnswer::Number(place) => refused(3, place),
@@ -79,20 +82,24 @@ pub fn of_write(a: encoder::WriteAnswer) -> Answer
 }
 
 pub fn of_read(a: decoder::ReadAnswer) -> Answer
-    ensures { λ r. ⌜ values r ≡ four (single (readOutcome a)) ⌝ }
+    ensures { λ r. ⌜ values r ≡ five (single (readOutcome a)) ⌝ }
 {
     match a {
-        decoder::ReadAnswer::Row(count) => accepted(count as u64, 0),
+        decoder::ReadAnswer::Row(count) => accepted(count as u64, 0, 0),
         decoder::ReadAnswer::Refused(r) => unread(r),
         decoder::ReadAnswer::Room => refused(5, 0),
     }
 }
 
 pub fn of_append(a: appender::AppendAnswer) -> Answer
-    ensures { λ r. ⌜ values r ≡ four (appendOutcome a) ⌝ }
+    ensures { λ r. ⌜ values r ≡ five (pair (appendOutcome a)) ⌝ }
 {
     match a {
-        appender::AppendAnswer::Appended { bytes, count } => accepted(bytes as u64, count as u64),
+        appender::AppendAnswer::Appended { bytes, count } => accepted(
+            bytes as u64,
+            count as u64,
+            0,
+        ),
         appender::AppendAnswer::Refused(r) => unread(r),
         appender::AppendAnswer::Number => refused(3, 0),
         appender::AppendAnswer::Full => refused(4, 0),
@@ -101,30 +108,30 @@ pub fn of_append(a: appender::AppendAnswer) -> Answer
 }
 
 pub fn of_total(a: totals::TotalAnswer) -> Answer
-    ensures { λ r. ⌜ values r ≡ four (single (totalOutcome a)) ⌝ }
+    ensures { λ r. ⌜ values r ≡ five (single (totalOutcome a)) ⌝ }
 {
     match a {
-        totals::TotalAnswer::Sum(total) => accepted(total, 0),
+        totals::TotalAnswer::Sum(total) => accepted(total, 0, 0),
         totals::TotalAnswer::Refused(r) => unread(r),
         totals::TotalAnswer::Span => refused(8, 0),
     }
 }
 
 pub fn of_repeated_total(a: totals::RepeatedTotalAnswer) -> Answer
-    ensures { λ r. ⌜ values r ≡ four (single (repeatedOutcome a)) ⌝ }
+    ensures { λ r. ⌜ values r ≡ five (single (repeatedOutcome a)) ⌝ }
 {
     match a {
-        totals::RepeatedTotalAnswer::Sum(total) => accepted(total, 0),
+        totals::RepeatedTotalAnswer::Sum(total) => accepted(total, 0, 0),
         totals::RepeatedTotalAnswer::Refused(r) => unread(r),
         totals::RepeatedTotalAnswer::Repeats => refused(14, 0),
     }
 }
 
 pub fn of_build(a: wavelet_build::BuildAnswer) -> Answer
-    ensures { λ r. ⌜ values r ≡ four (single (buildOutcome a)) ⌝ }
+    ensures { λ r. ⌜ values r ≡ five (single (buildOutcome a)) ⌝ }
 {
     match a {
-        wavelet_build::BuildAnswer::Built(bits) => accepted(bits as u64, 0),
+        wavelet_build::BuildAnswer::Built(bits) => accepted(bits as u64, 0, 0),
         wavelet_build::BuildAnswer::Refused(r) => untreed(r),
         wavelet_build::BuildAnswer::Number(place) => refused(10, place),
         wavelet_build::BuildAnswer::Room => refused(5, 0),
@@ -132,12 +139,13 @@ pub fn of_build(a: wavelet_build::BuildAnswer) -> Answer
 }
 
 pub fn of_extract(a: wavelet_query::ExtractAnswer) -> Answer
-    ensures { λ r. ⌜ values r ≡ four (extractOutcome a) ⌝ }
+    ensures { λ r. ⌜ values r ≡ five (pair (extractOutcome a)) ⌝ }
 {
     match a {
         wavelet_query::ExtractAnswer::Extracted { number, visits } => accepted(
             fibonacci::wide(number),
             visits as u64,
+            0,
         ),
         wavelet_query::ExtractAnswer::Refused(r) => untreed(r),
         wavelet_query::ExtractAnswer::Index => refused(11, 0),
@@ -146,12 +154,13 @@ pub fn of_extract(a: wavelet_query::ExtractAnswer) -> Answer
 }
 
 pub fn of_rank(a: wavelet_query::RankAnswer) -> Answer
-    ensures { λ r. ⌜ values r ≡ four (rankOutcome a) ⌝ }
+    ensures { λ r. ⌜ values r ≡ five (pair (rankOutcome a)) ⌝ }
 {
     match a {
         wavelet_query::RankAnswer::Ranked { count, visits } => accepted(
             count as u64,
             visits as u64,
+            0,
         ),
         wavelet_query::RankAnswer::Refused(r) => untreed(r),
         wavelet_query::RankAnswer::Index => refused(11, 0),
@@ -161,12 +170,13 @@ pub fn of_rank(a: wavelet_query::RankAnswer) -> Answer
 }
 
 pub fn of_select(a: wavelet_select::SelectAnswer) -> Answer
-    ensures { λ r. ⌜ values r ≡ four (selectOutcome a) ⌝ }
+    ensures { λ r. ⌜ values r ≡ five (pair (selectOutcome a)) ⌝ }
 {
     match a {
         wavelet_select::SelectAnswer::Selected { place, visits } => accepted(
             place as u64,
             visits as u64,
+            0,
         ),
         wavelet_select::SelectAnswer::Refused(r) => untreed(r),
         wavelet_select::SelectAnswer::Index => refused(11, 0),
@@ -177,10 +187,10 @@ pub fn of_select(a: wavelet_select::SelectAnswer) -> Answer
 }
 
 pub fn of_listing(a: listing_text::ListingAnswer) -> Answer
-    ensures { λ r. ⌜ values r ≡ four (single (listingOutcome a)) ⌝ }
+    ensures { λ r. ⌜ values r ≡ five (single (listingOutcome a)) ⌝ }
 {
     match a {
-        listing_text::ListingAnswer::Text(bytes) => accepted(bytes as u64, 0),
+        listing_text::ListingAnswer::Text(bytes) => accepted(bytes as u64, 0, 0),
         listing_text::ListingAnswer::Room => refused(5, 0),
     }
 }

@@ -3,8 +3,8 @@ use mathlib.Core.List.{List}
 use Prim.Native.Nat.{ℕ}
 use lib.Seq.{sets}
 use Rattle.fibonacci.specs.Calls.{Outcome}
-use Rattle.answers.specs.Answers.{four}
+use Rattle.answers.specs.Answers.{five}
 
--- The caller's list afterwards: the four numbers of the answer from its front on, as far as there is room, and what stood after them
-abbrev pub told : Outcome (ℕ × ℕ) → List ℕ → List ℕ
-told o before = sets before 0 (four o)
+-- The caller's list afterwards: the five numbers of the answer from its front on, as far as there is room, and what stood after them
+abbrev pub told : Outcome (ℕ × ℕ × ℕ) → List ℕ → List ℕ
+told o before = sets before 0 (five o)

@@ -1,5 +1,5 @@
 // Every operation of the library for tests and benchmarks in other languages: `probe_X` calls X on the caller's own buffers. What the call answers goes to
-// the last parameter, as far as that has room: paper 01's answer number, the place, and two results, which are zeros where there are none.
+// the last parameter, as far as that has room: paper 01's answer number, the place, and three results, which are zeros where there are none.
 ghost use mathlib.Core.Path.{_≡_};
 ghost use lib.ListN.{length, set};
 ghost use lib.Seq.{sets};
@@ -10,7 +10,7 @@ ghost use Rattle.appender.specs.Appending.{append, appendInto};
 ghost use Rattle.table_decoder.specs.Reading.{readBytes, readBytesInto};
 ghost use Rattle.wavelet.specs.Questions.{build, buildInto, extract, rank, select};
 ghost use Rattle.listing_text.specs.Listing.{text, put, putInto};
-ghost use Rattle.answers.specs.Answers.{single, values};
+ghost use Rattle.answers.specs.Answers.{single, pair, values};
 ghost use Rattle.probe.specs.Probe.{told};
 
 // Element i becomes x; where i is past the end, nothing changes.
@@ -22,7 +22,7 @@ fn store(list: &mut [u64], i: usize, x: u64)
     }
 }
 
-// The four numbers from the front of a list, as far as it has room.
+// The five numbers from the front of a list, as far as it has room.
 fn tell(answer: &mut [u64], a: answers::Answer)
     ensures { λ r. ⌜ now (answer .exit) ≡ sets (now (answer .entry)) 0 (values a) ⌝ }
 {
@@ -30,11 +30,12 @@ fn tell(answer: &mut [u64], a: answers::Answer)
     store(answer, 1, a.place);
     store(answer, 2, a.first);
     store(answer, 3, a.second);
+    store(answer, 4, a.third);
 }
 
 #[no_mangle]
 pub extern "C" fn probe_write(order: usize, row: &[u32], out: &mut [u8], answer: &mut [u64])
-    ensures { λ r. ⌜ (now (answer .exit) ≡ told (write order (now (row .entry)) (length (now (out .entry)))) (now (answer .entry))) × (now (out .exit) ≡ writeInto order (now (row .entry)) (now (out .entry))) ⌝ }
+    ensures { λ r. ⌜ (now (answer .exit) ≡ told (pair (write order (now (row .entry)) (length (now (out .entry))))) (now (answer .entry))) × (now (out .exit) ≡ writeInto order (now (row .entry)) (now (out .entry))) ⌝ }
 {
     tell(answer, answers::of_write(encoder::write(order, row, out)));
 }
@@ -68,7 +69,7 @@ pub extern "C" fn probe_append(
     n: u32,
     answer: &mut [u64],
 )
-    ensures { λ r. ⌜ (now (answer .exit) ≡ told (append order (now (buf .entry)) used n) (now (answer .entry))) × (now (buf .exit) ≡ appendInto order (now (buf .entry)) used n) ⌝ }
+    ensures { λ r. ⌜ (now (answer .exit) ≡ told (pair (append order (now (buf .entry)) used n)) (now (answer .entry))) × (now (buf .exit) ≡ appendInto order (now (buf .entry)) used n) ⌝ }
 {
     tell(
         answer,
@@ -118,7 +119,7 @@ pub extern "C" fn probe_extract(
     i: usize,
     answer: &mut [u64],
 )
-    ensures { λ r. ⌜ now (answer .exit) ≡ told (extract order alphabet len (now (index .entry)) i) (now (answer .entry)) ⌝ }
+    ensures { λ r. ⌜ now (answer .exit) ≡ told (pair (extract order alphabet len (now (index .entry)) i)) (now (answer .entry)) ⌝ }
 {
     tell(
         answer,
@@ -136,7 +137,7 @@ pub extern "C" fn probe_rank(
     i: usize,
     answer: &mut [u64],
 )
-    ensures { λ r. ⌜ now (answer .exit) ≡ told (rank order alphabet len (now (index .entry)) n i) (now (answer .entry)) ⌝ }
+    ensures { λ r. ⌜ now (answer .exit) ≡ told (pair (rank order alphabet len (now (index .entry)) n i)) (now (answer .entry)) ⌝ }
 {
     tell(
         answer,
@@ -154,7 +155,7 @@ pub extern "C" fn probe_select(
     j: usize,
     answer: &mut [u64],
 )
-    ensures { λ r. ⌜ now (answer .exit) ≡ told (select order alphabet len (now (index .entry)) n j) (now (answer .entry)) ⌝ }
+    ensures { λ r. ⌜ now (answer .exit) ≡ told (pair (select order alphabet len (now (index .entry)) n j)) (now (answer .entry)) ⌝ }
 {
     tell(
         answer,

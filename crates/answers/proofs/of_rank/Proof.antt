@@ -1,3 +1,5 @@
+use mathlib.Core.Path.{_∙_}
+use Rattle.answers.proofs.Refusals.{tree-pair}
 use borrow.Author.Needs.{needs}
 use Rattle.answers.proofs.of_rank.Statement.{statement}
 use Rattle.answers.proofs.of_rank.Tie as tie
@@ -36,7 +38,7 @@ returns : tie.Need-returns
 returns c = rw (c .before .before .a .given .1) (c .accepted .ensures)
 
 returns-2 : tie.Need-returns-2
-returns-2 c = rw (c .before .before .a2 .given .1) (c .untreed .ensures)
+returns-2 c = rw (c .before .before .a2 .given .1) (c .untreed .ensures ∙ tree-pair (c .before .before .a2 .given .0 .0))
 
 returns-3 : tie.Need-returns-3
 returns-3 c = rw (c .before .enum-told .given .1) (c .refused .ensures)

@@ -1,4 +1,4 @@
-use Rattle.probe.proofs.Telling.{tells}
+use Rattle.probe.proofs.Telling.{tells-pair}
 use borrow.Author.Needs.{needs}
 use Rattle.probe.proofs.probe_select.Statement.{statement}
 use Rattle.probe.proofs.probe_select.Tie as tie
@@ -21,7 +21,7 @@ returns c =
     let o = t .before in
     let w = o .before in
     let a = w .before .before .before .before .args in
-    tells (a .answer .now) _ (o .of-select .result) (t .tell .ensures) (o .of-select .ensures) (w .select .ensures)
+    tells-pair (a .answer .now) _ (o .of-select .result) (t .tell .ensures) (o .of-select .ensures) (w .select .ensures)
 
 pub probe-select-spec : {M : Type 1} → statement M
 probe-select-spec =

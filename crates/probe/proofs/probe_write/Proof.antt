@@ -1,4 +1,4 @@
-use Rattle.probe.proofs.Telling.{tells}
+use Rattle.probe.proofs.Telling.{tells-pair}
 use borrow.Author.Needs.{needs}
 use Rattle.probe.proofs.probe_write.Statement.{statement}
 use Rattle.probe.proofs.probe_write.Tie as tie
@@ -24,7 +24,7 @@ returns c =
     let o = t .before in
     let w = o .before .before .before in
     let a = w .before .before .before .before .before .before .args in
-    (tells (a .answer .now) _ (o .of-write .result) (t .tell .ensures) (o .of-write .ensures) (w .write .ensures .0), w .write .ensures .1)
+    (tells-pair (a .answer .now) _ (o .of-write .result) (t .tell .ensures) (o .of-write .ensures) (w .write .ensures .0), w .write .ensures .1)
 
 pub probe-write-spec : {M : Type 1} → statement M
 probe-write-spec =

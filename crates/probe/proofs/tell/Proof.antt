@@ -14,6 +14,9 @@ store-requires-3 c κs = search needs
 store-requires-4 : tie.Need-store-requires-4
 store-requires-4 c κs = search needs
 
+store-requires-5 : tie.Need-store-requires-5
+store-requires-5 c κs = search needs
+
 same-length : tie.Need-same-length
 same-length c = search needs
 
@@ -28,5 +31,6 @@ tell-spec =
     store-requires-2
     store-requires-3
     store-requires-4
+    store-requires-5
     same-length
     returns)
