@@ -1,0 +1,172 @@
+// What the console says, in tables of lines. A line has columns, two spaces or more between them. A request has the number of its line in the help, whose
+// columns are its usage and an example.
+ghost use Prim.Native.Nat.{_≤_};
+ghost use lib.ListN.{length};
+use crate::say;
+use crate::words;
+
+pub const HELP: [u8; 1789] = *b"\
+A request is a line:\n\
+\x20   codewords ORDER ROW                             codewords 2 3 1 4 2 1\n\
+\x20   write ORDER ROW                                 write 2 3 1 4 2 1\n\
+\x20   read ORDER BYTES                                read 2 3E DE\n\
+\x20   table-read BYTES                                table-read 6D B8\n\
+\x20   table-read-bytes BYTES                          table-read-bytes 6D B8\n\
+\x20   append ORDER NUMBER BYTES                       append 2 600 3E DE\n\
+\x20   total ORDER FROM TO BYTES                       total 2 0 5 3E DE\n\
+\x20   repeated-total ORDER REPEATS BYTES              repeated-total 3 11 6D B8\n\
+\x20   build ORDER ALPHABET ROW                        build 2 4 3 1 4 2 1\n\
+\x20   extract ORDER ALPHABET LENGTH PLACE INDEX       extract 2 4 5 2 6B 40\n\
+\x20   rank ORDER ALPHABET LENGTH NUMBER PLACE INDEX   rank 2 4 5 1 3 6B 40\n\
+\x20   select ORDER ALPHABET LENGTH NUMBER USE INDEX   select 2 4 5 1 2 6B 40\n\
+\x20   listing ORDER ROW                               listing 2 3 1 4 2 1\n\
+\x20   listing-text TIMES TEXT                         listing-text 1          2$\n\
+\x20   table-row ONES BYTE                             table-row 1 B7\n\
+\x20   table-value ONES LENGTH BYTE                    table-value 1 4 B7\n\
+\x20   help                                            help\n\
+ROW: numbers; 1x4096 is 4096 ones. BYTES, INDEX: two hexadecimal digits each; FFx1024 is 1024 times FF.\n\
+ORDER: 2 to 6. ALPHABET: the largest number of an index. FROM, TO, PLACE: from 0; USE: from 1.\n\
+table-..: by the table for order 3. TEXT: input of the listing program; $ is a line feed, ^ a carriage return, ~ a tab.\n\
+`room N` before a request that writes: its output has N elements, and all of them are shown.\n\
+`used N` before append: the buffer is BYTES, of which N are in use. A line that begins with # is passed over.\n\
+NO n: a refusal, with its number.\n";
+
+// What a request is answered, line by line as in the help: the results, each a `#`; what was written; and, where its room was named, the whole output.
+pub const ANSWERS: [u8; 353] = *b"\
+\n\
+\n\
+bytes #, bits #  ; encoding  ; output\n\
+count #  ; row  ; output\n\
+count #  ; row  ; output\n\
+count #  ; bytes  ; output\n\
+bytes #, count #  ; encoding  ; buffer\n\
+total #\n\
+total #\n\
+bits #  ; index  ; output\n\
+number #, visits #\n\
+count #, visits #\n\
+place #, visits #\n\
+\n\
+\n\
+ended #; finishing: bits #, values # # #; inside # #; remaining: bits #, value #, ones #\n\
+value #\n\
+\n";
+
+// A refusal in words, by its number. Which is given when, paper 01 says; 13 is the listing program's alone.
+pub const REFUSALS: [u8; 514] = *b"\
+\n\
+the order is not 2 to 6\n\
+more than 24064 bytes, or more in use than the buffer has\n\
+a number is 0\n\
+more than 4096 numbers\n\
+the output is too short\n\
+8 bits or more, or a one, remain after the last codeword\n\
+a number is above 4294967295\n\
+the place, the span or the use is not in the row\n\
+the alphabet is not 1 to 4096\n\
+a number is 0 or above the alphabet\n\
+the bytes are no index of so many numbers\n\
+the number stands in the row fewer times\n\
+a line of the input has another form, or there is none\n\
+the repeats are not 1 to 10000\n";
+
+// Where line k of a table begins, from 0; its length where there is no such line.
+fn start(table: &[u8], k: usize) -> usize {
+    let mut left = k;
+    for i in 0..table.len() {
+        if left == 0 {
+            return i;
+        }
+        if table[i] == b'\n' {
+            left -= 1;
+        }
+    }
+    table.len()
+}
+
+// Whether a column ends before a byte that another follows.
+fn ends(b: u8, next: u8) -> bool {
+    b == b'\n' || b == b' ' && next == b' '
+}
+
+fn byte_at(table: &[u8], i: usize) -> u8 {
+    if i < table.len() { table[i] } else { b'\n' }
+}
+
+// Where the column that begins at a place ends.
+fn end(table: &[u8], from: usize) -> usize
+    requires { ⌜ from ≤ length (now table) ⌝ }
+    ensures { λ r. ⌜ (from ≤ r) × (r ≤ length (now (table .entry))) ⌝ }
+{
+    for i in from..table.len() {
+        if ends(table[i], byte_at(table, i + 1)) {
+            return i;
+        }
+    }
+    table.len()
+}
+
+// Column c of line k, from 0.
+fn column(table: &[u8], k: usize, c: usize) -> words::Word
+    ensures { λ r. ⌜ (r .from ≤ r .to) × (r .to ≤ length (now (table .entry))) ⌝ }
+{
+    let mut from = words::next(table, start(table, k)).from;
+    let mut to = end(table, from);
+    for j in 0..c {
+        from = words::next(table, to).from;
+        to = end(table, from);
+    }
+    words::Word { from, to }
+}
+
+fn put(out: &mut [u8], at: usize, table: &[u8], k: usize, c: usize) -> usize {
+    let w = column(table, k, c);
+    let from = w.from;
+    let to = w.to;
+    say::text(out, at, &table[from..to])
+}
+
+pub fn usage(out: &mut [u8], at: usize, k: usize) -> usize {
+    let table = HELP;
+    put(out, at, &table, k, 0)
+}
+
+pub fn refusal(out: &mut [u8], at: usize, number: usize) -> usize {
+    let table = REFUSALS;
+    put(out, at, &table, number, 0)
+}
+
+// What stands before an output, whole or as far as it was written.
+pub fn label(out: &mut [u8], at: usize, k: usize, whole: bool) -> usize {
+    let table = ANSWERS;
+    put(out, at, &table, k, if whole { 2 } else { 1 })
+}
+
+// The results of a request, of which there are as many as it has.
+pub fn results(out: &mut [u8], k: usize, list: &[u64]) -> usize {
+    let table = ANSWERS;
+    let w = column(&table, k, 0);
+    let from = w.from;
+    let to = w.to;
+    say::filled(out, &table[from..to], list)
+}
+
+// The help without its last line feed, which follows every answer.
+pub fn help(out: &mut [u8]) -> usize {
+    let table = HELP;
+    say::text(out, 0, &table[0..1788])
+}
+
+// The request of a name: its line in the help; 0 where there is none.
+pub fn named(name: &[u8]) -> usize {
+    let table = HELP;
+    for k in 1..18usize {
+        let w = words::next(&table, start(&table, k));
+        let from = w.from;
+        let to = w.to;
+        if check::same(name, &table[from..to]) {
+            return k;
+        }
+    }
+    0
+}

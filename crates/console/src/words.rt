@@ -1,0 +1,225 @@
+// The words of a line, and what they say. Blanks stand between words.
+ghost use Prim.Native.Nat.{_≤_, _<_};
+ghost use lib.ListN.{length};
+use crate::say::least;
+
+// What words say: a number, or how many elements of a list, or where on the line to go on; or that they have another form.
+pub enum Found {
+    Number(u64),
+    Count(usize),
+    Malformed,
+}
+
+// A word: from one place of a line up to but without another. Where the two are the same there is none.
+pub struct Word {
+    pub from: usize,
+    pub to: usize,
+}
+
+fn is_blank(b: u8) -> bool {
+    b == b' ' || b == b'\t' || b == b'\r'
+}
+
+// The first place from one on whose byte is a blank, or is none; else the length.
+fn find(line: &[u8], from: usize, blank: bool) -> usize
+    requires { ⌜ from ≤ length (now line) ⌝ }
+    ensures { λ r. ⌜ (from ≤ r) × (r ≤ length (now (line .entry))) ⌝ }
+{
+    for i in from..line.len() {
+        if is_blank(line[i]) == blank {
+            return i;
+        }
+    }
+    line.len()
+}
+
+// The next word from a place on.
+pub fn next(line: &[u8], at: usize) -> Word
+    ensures { λ r. ⌜ (r .from ≤ r .to) × (r .to ≤ length (now (line .entry))) ⌝ }
+{
+    let from = find(line, least(at, line.len()), false);
+    let to = find(line, from, true);
+    Word { from, to }
+}
+
+// The value of a letter as a digit, by its place in the alphabet; 16 where it is none.
+fn letter(k: u8) -> u64
+    ensures { λ r. ⌜ r ≤ 16 ⌝ }
+{
+    if k < 6 { 10 + k as u64 } else { 16 }
+}
+
+// The value of a digit, to F; 16 where it is none.
+fn digit(b: u8) -> u64
+    ensures { λ r. ⌜ r ≤ 16 ⌝ }
+{
+    if b >= b'a' {
+        return letter(b - b'a');
+    }
+    if b >= b'A' {
+        return letter(b - b'A');
+    }
+    if b < b'0' {
+        return 16;
+    }
+    if b > b'9' {
+        return 16;
+    }
+    (b - b'0') as u64
+}
+
+// A decimal number with a digit more; the largest of 64 bits and no more.
+fn with_digit(n: u64, d: u64) -> Found {
+    if d > 9 {
+        return Found::Malformed;
+    }
+    if n > (u64::MAX - d) / 10 {
+        return Found::Malformed;
+    }
+    Found::Number(10 * n + d)
+}
+
+// A decimal number.
+fn decimal(word: &[u8]) -> Found {
+    if word.len() == 0 {
+        return Found::Malformed;
+    }
+    let mut n: u64 = 0;
+    for i in 0..word.len() {
+        let Found::Number(more) = with_digit(n, digit(word[i])) else {
+            return Found::Malformed;
+        };
+        n = more;
+    }
+    Found::Number(n)
+}
+
+// A byte, two hexadecimal digits.
+fn byte(word: &[u8]) -> Found {
+    if word.len() != 2 {
+        return Found::Malformed;
+    }
+    let high = digit(word[0]);
+    let low = digit(word[1]);
+    if high < 16 && low < 16 {
+        Found::Number(16 * high + low)
+    } else {
+        Found::Malformed
+    }
+}
+
+// ## Numbers
+
+// The next words as decimal numbers, as many as the list has: where they end.
+pub fn arguments(line: &[u8], at: usize, list: &mut [u64]) -> Found {
+    let mut at = at;
+    for k in 0..list.len() {
+        let w = next(line, at);
+        let from = w.from;
+        let to = w.to;
+        let Found::Number(n) = decimal(&line[from..to]) else {
+            return Found::Malformed;
+        };
+        list[k] = n;
+        at = to;
+    }
+    Found::Count(at)
+}
+
+// ## Lists
+
+// An element of a row or, in hexadecimal, of bytes.
+fn element(hexadecimal: bool, word: &[u8]) -> Found {
+    if hexadecimal {
+        byte(word)
+    } else {
+        decimal(word)
+    }
+}
+
+// Where an x stands in a word, and else its length.
+fn cross(word: &[u8]) -> usize
+    ensures { λ r. ⌜ r ≤ length (now (word .entry)) ⌝ }
+{
+    for i in 0..word.len() {
+        if word[i] == b'x' {
+            return i;
+        }
+    }
+    word.len()
+}
+
+// How often an element stands there: the number after its x, and else once.
+fn times(word: &[u8], end: usize) -> Found
+    requires { ⌜ end ≤ length (now word) ⌝ }
+{
+    if end == word.len() {
+        Found::Number(1)
+    } else {
+        decimal(&word[end + 1..])
+    }
+}
+
+fn fill(list: &mut [u32], n: u64) {
+    for i in 0..list.len() {
+        list[i] = (n % 4294967296) as u32;
+    }
+}
+
+// So many elements more in a list that has some: how many it has then.
+fn put(list: &mut [u32], used: usize, n: u64, times: u64) -> Found {
+    if n > 4294967295 {
+        return Found::Malformed;
+    }
+    if used > list.len() {
+        return Found::Malformed;
+    }
+    if times > (list.len() - used) as u64 {
+        return Found::Malformed;
+    }
+    let end = used + times as usize;
+    fill(&mut list[used..end], n);
+    Found::Count(end)
+}
+
+// A word as `600` or `1x4096`, or as `6B` or `FFx1024`.
+fn put_word(list: &mut [u32], used: usize, hexadecimal: bool, word: &[u8]) -> Found {
+    let end = cross(word);
+    let Found::Number(n) = element(hexadecimal, &word[0..end]) else {
+        return Found::Malformed;
+    };
+    let Found::Number(k) = times(word, end) else {
+        return Found::Malformed;
+    };
+    put(list, used, n, k)
+}
+
+// The words from a place on, as a row or as bytes: how many elements. A line has no more words than bytes.
+pub fn elements(hexadecimal: bool, line: &[u8], at: usize, list: &mut [u32]) -> Found {
+    let mut at = at;
+    let mut used: usize = 0;
+    for k in 0..line.len() {
+        let w = next(line, at);
+        let from = w.from;
+        let to = w.to;
+        if from == to {
+            return Found::Count(used);
+        }
+        let Found::Count(more) = put_word(list, used, hexadecimal, &line[from..to]) else {
+            return Found::Malformed;
+        };
+        used = more;
+        at = to;
+    }
+    Found::Count(used)
+}
+
+// The same elements as bytes, as far as there is room.
+pub fn narrowed(list: &[u32], bytes: &mut [u8]) {
+    for i in 0..list.len() {
+        if i >= bytes.len() {
+            return;
+        }
+        bytes[i] = (list[i] % 256) as u8;
+    }
+}
