@@ -9,6 +9,8 @@ mod border;
 mod codec;
 #[path = "differ/encodings.rs"]
 mod encodings;
+#[path = "differ/every.rs"]
+mod every;
 #[path = "differ/index.rs"]
 mod index;
 #[path = "differ/ledger.rs"]
@@ -60,11 +62,14 @@ fn fixed(border: &mut Border, ledger: &mut Ledger) {
     ledger.begin(0);
     let mut random = Random::new(0);
     let mut codec = Codec { border, ledger, random: &mut random };
-    codec.small_strings();
+    codec.every();
     codec.limits();
     codec.words();
     let mut indexing = Indexing { border, ledger, random: &mut random };
     indexing.small_rows();
+    indexing.small_strings();
+    indexing.visits();
+    indexing.large_rows();
     indexing.limits();
     let mut listing = Listing { border, ledger, random: &mut random };
     listing.fixed();

@@ -149,6 +149,20 @@ extern "C" fn touched(_: c_int) {
 
 // ---- Calls ----
 
+/// How many numbers a call tells: that of its answer, the place, and the results.
+pub const TOLD: usize = 5;
+
+pub type Told = [u64; TOLD];
+
+/// What a call tells that has so many results; all others are 0.
+pub fn told(number: u64, place: u64, results: &[u64]) -> Told {
+    let mut told = [0; TOLD];
+    told[0] = number;
+    told[1] = place;
+    told[2..2 + results.len()].copy_from_slice(results);
+    told
+}
+
 /// What a call leaves: its answer and its output, and what it may not have done.
 pub struct Called<O> {
     before: Vec<u64>,
@@ -158,10 +172,10 @@ pub struct Called<O> {
 }
 
 impl<O> Called<O> {
-    /// The answer that four numbers make: as far as there is room, and after them what stood there.
-    pub fn expected(&self, four: [u64; 4]) -> Vec<u64> {
+    /// The answer's list after a call that tells this: as far as there is room, and after it what stood there.
+    pub fn expected(&self, told: Told) -> Vec<u64> {
         let mut answer = self.before.clone();
-        for (element, number) in answer.iter_mut().zip(four) {
+        for (element, number) in answer.iter_mut().zip(told) {
             *element = number;
         }
         answer
@@ -184,7 +198,7 @@ impl Border {
         Border { input: Memory::new(), output: Memory::new(), answer: Memory::new(), calls: 0 }
     }
 
-    /// Calls on watched buffers. The answer has room for four numbers, now and then for another number of them.
+    /// Calls on watched buffers. The answer has room for what is told, now and then for more or fewer numbers.
     fn call<I: Plain, O: Plain>(
         &mut self,
         input: &[I],
@@ -192,7 +206,7 @@ impl Border {
         call: impl FnOnce(*const I, usize, *mut O, usize, *mut u64, usize),
     ) -> Called<O> {
         self.calls += 1;
-        let room = if self.calls % 16 == 0 { (self.calls / 16 % 8) as usize } else { 4 };
+        let room = if self.calls % 16 == 0 { (self.calls / 16 % 8) as usize } else { TOLD };
         let before: Vec<u64> = (0..room).map(|i| 0xDEAD_BEEF + i as u64).collect();
         let lent_input = self.input.lend(input, self.calls);
         let lent_output = self.output.lend(output, self.calls / 2);
@@ -251,6 +265,7 @@ impl Border {
     pub fn select(&mut self, order: usize, alphabet: u32, len: usize, index: &[u8], number: u32, j: usize) -> Called<u8> {
         self.call(index, &[], |s, ss, _, _, a, n| unsafe { probe_select(order, alphabet, len, s, ss, number, j, a, n) })
     }
+
     pub fn listing(&mut self, input: &[u8], out: &[u8]) -> Called<u8> {
         self.call(input, out, |s, ss, o, os, a, n| unsafe { probe_listing(s, ss, o, os, a, n) })
     }

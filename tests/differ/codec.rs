@@ -1,18 +1,18 @@
 //! Writing, the two readers, appending and totals beside the model.
 
-use crate::border::{Border, Called};
+use crate::border::{told, Border, Called, Told, TOLD};
 use crate::encodings;
 use crate::ledger::Ledger;
 use crate::model::{self, Answer};
 use crate::random::Random;
 use crate::text::{bytes, numbers};
 
-fn one(a: &Answer<u64>) -> [u64; 4] {
-    [a.number, a.place, a.results, 0]
+fn one(a: &Answer<u64>) -> Told {
+    told(a.number, a.place, &[a.results])
 }
 
-fn two(a: &Answer<(u64, u64)>) -> [u64; 4] {
-    [a.number, a.place, a.results.0, a.results.1]
+fn two(a: &Answer<(u64, u64)>) -> Told {
+    told(a.number, a.place, &[a.results.0, a.results.1])
 }
 
 /// Each operation, called through the border and asked of the model.
@@ -23,7 +23,7 @@ pub struct Codec<'a> {
 }
 
 impl Codec<'_> {
-    fn write(&mut self, order: usize, row: &[u32], out: &[u8]) {
+    pub fn write(&mut self, order: usize, row: &[u32], out: &[u8]) {
         let called = self.border.write(order, row, out);
         let mut output = out.to_vec();
         let a = model::write(order as u64, row, &mut output);
@@ -47,7 +47,7 @@ impl Codec<'_> {
         self.ledger.compare("table_read", &a.number.to_string(), &called, one(&a), &output, arguments);
     }
 
-    fn table_read_bytes(&mut self, s: &[u8], out: &[u8]) {
+    pub fn table_read_bytes(&mut self, s: &[u8], out: &[u8]) {
         let called = self.border.table_read_bytes(s, out);
         let mut output = out.to_vec();
         let a = model::table_read_bytes(s, &mut output);
@@ -88,9 +88,9 @@ impl Codec<'_> {
         let by_bits = self.border.read(3, s, out);
         let by_bytes = self.border.table_read(s, out);
         let arguments = || format!("s {}, out {}", bytes(s), numbers(out));
-        // the answers' lists may have room for fewer than four numbers
-        let told = by_bits.answer.len().min(by_bytes.answer.len()).min(4);
-        self.ledger.same("the two readers' answers", &by_bits.answer[..told], &by_bytes.answer[..told], arguments);
+        // the answers' lists may have room for fewer numbers
+        let both = by_bits.answer.len().min(by_bytes.answer.len()).min(TOLD);
+        self.ledger.same("the two readers' answers", &by_bits.answer[..both], &by_bytes.answer[..both], arguments);
         self.ledger.same("the two readers' rows", &by_bits.output, &by_bytes.output, arguments);
         let host: Vec<u8> = out.iter().flat_map(|n| n.to_le_bytes()).collect();
         let into_bytes = self.border.table_read_bytes(s, &host);
@@ -184,26 +184,6 @@ impl Codec<'_> {
         self.append(order, &buffer, used, n);
     }
 
-    /// Every string of up to two bytes, in every order.
-    pub fn small_strings(&mut self) {
-        for order in 2..=6 {
-            let out = [7; 9];
-            self.read(order, &[], &out);
-            for first in 0..=255 {
-                self.read(order, &[first], &out);
-                for second in 0..=255 {
-                    self.read(order, &[first, second], &out);
-                }
-            }
-        }
-        for first in 0..=255 {
-            for second in 0..=255 {
-                self.table_read(&[first, second], &[7; 6]);
-                self.table_read_bytes(&[first, second], &[7; 22]);
-            }
-        }
-    }
-
     /// The limits themselves, at each of which the answer changes.
     pub fn limits(&mut self) {
         for order in 0..=8usize {
@@ -235,6 +215,40 @@ impl Codec<'_> {
                 }
             }
             self.long_strings(order);
+        }
+        for order in 2..=6 {
+            self.largest_rows(order);
+        }
+    }
+
+    /// The longest encodings: 4,096 largest numbers, and 4,095 and one appended.
+    fn largest_rows(&mut self, order: usize) {
+        let s = model::encoding(order, &[u32::MAX; 4096]);
+        for room in [s.len() - 1, s.len(), s.len() + 1] {
+            self.write(order, &[u32::MAX; 4096], &vec![0xA5; room]);
+        }
+        for room in [4095, 4096, 4097] {
+            self.read(order, &s, &vec![9; room]);
+            if order == 3 {
+                self.table_read(&s, &vec![9; room]);
+                self.table_read_bytes(&s, &vec![9; 4 * room]);
+            }
+        }
+        for (from, to) in [(0, 4096), (1, 4095), (4095, 4096), (4096, 4096), (0, 4097)] {
+            self.total(order, &s, from, to);
+        }
+        for repeats in [10_000, 10_001] {
+            self.repeated_total(order, &s, repeats);
+        }
+        let most = [&s[..], &[0xA5; 24_064]].concat();
+        for n in [0, 1] {
+            self.append(order, &most[..24_064], s.len(), n);
+        }
+        let fewer = model::encoding(order, &[u32::MAX; 4095]);
+        for room in [s.len() - 1, s.len(), s.len() + 1] {
+            let mut buffer = vec![0xA5; room];
+            buffer[..fewer.len()].copy_from_slice(&fewer);
+            self.append(order, &buffer, fewer.len(), u32::MAX);
         }
     }
 

@@ -1,6 +1,6 @@
 //! The index and its three questions beside the model.
 
-use crate::border::Border;
+use crate::border::{told, Border, Called, Told};
 use crate::ledger::Ledger;
 use crate::model::{self, Answer, Index, Refusal};
 use crate::random::Random;
@@ -9,13 +9,13 @@ use crate::text::{bytes, numbers};
 type Held = Result<Index, Refusal>;
 
 /// What the model answers of bytes: their refusal, or what the index that they are says.
-fn asked(held: &Held, question: impl Fn(&Index) -> Answer<(u64, u64)>) -> [u64; 4] {
+fn asked(held: &Held, question: impl Fn(&Index) -> Answer<(u64, u64)>) -> Told {
     match held {
         Ok(index) => {
             let a = question(index);
-            [a.number, a.place, a.results.0, a.results.1]
+            told(a.number, a.place, &[a.results.0, a.results.1])
         }
-        Err(refusal) => [refusal.number, refusal.place, 0, 0],
+        Err(refusal) => told(refusal.number, refusal.place, &[]),
     }
 }
 
@@ -25,6 +25,17 @@ fn index_of(order: usize, alphabet: u32, row: &[u32]) -> Vec<u8> {
     let bits = model::build(order as u64, alphabet as u64, row, &mut s).results as usize;
     s.truncate((bits + 7) / 8);
     s
+}
+
+/// Every order, with alphabets of up to six numbers and lengths of up to four.
+fn small() -> impl Iterator<Item = (usize, u32, usize)> {
+    (2..=6).flat_map(|order| (1..=6).flat_map(move |alphabet| (0..=4).map(move |len| (order, alphabet, len))))
+}
+
+/// Every row of a length over an alphabet.
+fn rows(alphabet: u32, len: usize) -> impl Iterator<Item = Vec<u32>> {
+    let number = move |code: u32, place: usize| code / alphabet.pow(place as u32) % alphabet + 1;
+    (0..alphabet.pow(len as u32)).map(move |code| (0..len).map(|place| number(code, place)).collect())
 }
 
 /// Bytes asked as an index of a row of `len` numbers.
@@ -54,30 +65,31 @@ pub struct Indexing<'a> {
 }
 
 impl Indexing<'_> {
-    fn build(&mut self, order: usize, alphabet: u32, row: &[u32], out: &[u8]) {
+    fn build(&mut self, order: usize, alphabet: u32, row: &[u32], out: &[u8]) -> Called<u8> {
         let called = self.border.build(order, alphabet, row, out);
         let mut output = out.to_vec();
         let a = model::build(order as u64, alphabet as u64, row, &mut output);
         let arguments = || format!("build(order {order}, alphabet {alphabet}, row {}, out {})", numbers(row), bytes(out));
-        self.ledger.compare("build", &a.number.to_string(), &called, [a.number, a.place, a.results, 0], &output, arguments);
+        self.ledger.compare("build", &a.number.to_string(), &called, told(a.number, a.place, &[a.results]), &output, arguments);
+        called
     }
 
     fn extract(&mut self, index: &Asked, i: usize) {
         let called = self.border.extract(index.order, index.alphabet, index.len, index.s, i);
-        let four = asked(&index.held, |index| index.extract(i as u64));
-        self.ledger.compare("extract", &four[0].to_string(), &called, four, &[], || index.told(&format!("extract(i {i})")));
+        let tells = asked(&index.held, |index| index.extract(i as u64));
+        self.ledger.compare("extract", &tells[0].to_string(), &called, tells, &[], || index.told(&format!("extract(i {i})")));
     }
 
     fn rank(&mut self, index: &Asked, n: u32, i: usize) {
         let called = self.border.rank(index.order, index.alphabet, index.len, index.s, n, i);
-        let four = asked(&index.held, |index| index.rank(n as u64, i as u64));
-        self.ledger.compare("rank", &four[0].to_string(), &called, four, &[], || index.told(&format!("rank(n {n}, i {i})")));
+        let tells = asked(&index.held, |index| index.rank(n as u64, i as u64));
+        self.ledger.compare("rank", &tells[0].to_string(), &called, tells, &[], || index.told(&format!("rank(n {n}, i {i})")));
     }
 
     fn select(&mut self, index: &Asked, n: u32, j: usize) {
         let called = self.border.select(index.order, index.alphabet, index.len, index.s, n, j);
-        let four = asked(&index.held, |index| index.select(n as u64, j as u64));
-        self.ledger.compare("select", &four[0].to_string(), &called, four, &[], || index.told(&format!("select(n {n}, j {j})")));
+        let tells = asked(&index.held, |index| index.select(n as u64, j as u64));
+        self.ledger.compare("select", &tells[0].to_string(), &called, tells, &[], || index.told(&format!("select(n {n}, j {j})")));
     }
 
     // ---- Random cases ----
@@ -182,21 +194,81 @@ impl Indexing<'_> {
         }
     }
 
-    /// Every place, number and use of small rows.
+    fn ask(&mut self, index: &Asked, n: u32, i: usize, j: usize) {
+        self.extract(index, i);
+        self.rank(index, n, i);
+        self.select(index, n, j);
+    }
+
+    // ---- What is tried whole ----
+
+    /// Every row of up to four numbers from up to six, and every place, number and use, the first illegal ones too.
     pub fn small_rows(&mut self) {
-        for order in 2..=6 {
-            for alphabet in 1..=5 {
-                for code in 0..alphabet * alphabet * alphabet {
-                    let row = [1 + code % alphabet, 1 + code / alphabet % alphabet, 1 + code / alphabet / alphabet];
-                    self.build(order, alphabet, &row, &[0xA5; 3]);
-                    let s = index_of(order, alphabet, &row);
-                    let index = Asked::new(order, alphabet, 3, &s);
-                    for i in 0..=4 {
+        for (order, alphabet, len) in small() {
+            for row in rows(alphabet, len) {
+                self.build(order, alphabet, &row, &[0xA5; 4]);
+                let s = index_of(order, alphabet, &row);
+                let index = Asked::new(order, alphabet, len, &s);
+                assert!(matches!(&index.held, Ok(held) if held.row == row));
+                for i in 0..=len + 1 {
+                    self.extract(&index, i);
+                    for n in 0..=alphabet + 1 {
+                        self.rank(&index, n, i);
+                        self.select(&index, n, i);
+                    }
+                }
+            }
+        }
+    }
+
+    /// Every string of up to two bytes as the index of up to four numbers from up to six. It is refused, or it is the index of the row that is extracted
+    /// from it; those that are an index are as many as there are rows whose index has up to two bytes.
+    pub fn small_strings(&mut self) {
+        let mut strings = vec![vec![]];
+        strings.extend((0..=255).map(|byte| vec![byte]));
+        strings.extend((0..=65_535u16).map(|two| two.to_be_bytes().to_vec()));
+        for (order, alphabet, len) in small() {
+            let mut taken = 0;
+            for s in &strings {
+                let index = Asked::new(order, alphabet, len, s);
+                self.ask(&index, 1, 0, 1);
+                if let Ok(held) = &index.held {
+                    taken += 1;
+                    for i in 1..len {
                         self.extract(&index, i);
-                        for n in 0..=alphabet + 1 {
-                            self.rank(&index, n, i);
-                            self.select(&index, n, i);
-                        }
+                    }
+                    let built = self.build(order, alphabet, &held.row, &vec![0xA5; s.len()]);
+                    self.ledger.same("an index built again", &built.output, s, || index.told("extract"));
+                }
+            }
+            assert_eq!(taken, rows(alphabet, len).filter(|row| index_of(order, alphabet, row).len() <= 2).count());
+        }
+    }
+
+    /// The visits of every number of small alphabets and of large ones, as ranks in an empty row tell them.
+    pub fn visits(&mut self) {
+        for order in 2..=6 {
+            for alphabet in (1..=16).chain([987, 988, 4095, 4096]) {
+                let index = Asked::new(order, alphabet, 0, &[]);
+                for n in 1..=alphabet {
+                    self.rank(&index, n, 0);
+                }
+            }
+        }
+    }
+
+    /// Rows of 4,096 numbers that change from place to place, asked at 65 places for numbers that they have, and for numbers that they may not have.
+    pub fn large_rows(&mut self) {
+        for order in 2..=6 {
+            for alphabet in [2, 3, 5, 8, 100, 1000, 4096] {
+                for modulus in [1009, 4099] {
+                    let row: Vec<u32> = (0..4096).map(|i| i * 2053 % modulus % alphabet + 1).collect();
+                    self.build(order, alphabet, &row, &[0xA5; 8192]);
+                    let s = index_of(order, alphabet, &row);
+                    let index = Asked::new(order, alphabet, 4096, &s);
+                    for k in 0..=64 {
+                        self.ask(&index, row[63 * k], 64 * k, k % 8);
+                        self.ask(&index, 63 * k as u32 % (alphabet + 2), 63 * k, k % 3);
                     }
                 }
             }

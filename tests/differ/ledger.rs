@@ -3,7 +3,7 @@
 use std::fmt::Debug;
 use std::sync::atomic::Ordering;
 
-use crate::border::{Called, CASE, SEED};
+use crate::border::{Called, Told, CASE, SEED};
 
 /// Each operation, with the answers that paper 01 gives it: every one has to come, and no other may. Those of the listing are told by its text, and 5 by an
 /// output that the text does not fit.
@@ -52,13 +52,13 @@ impl Ledger {
         SEED.store(seed, Ordering::Relaxed);
     }
 
-    /// Holds what a call left to the model's four numbers and output. The arguments are told only where there is a difference.
+    /// Holds what a call left to what the model tells, and to its output. The arguments are told only where there is a difference.
     pub fn compare<O: PartialEq + Debug>(
         &mut self,
         operation: &str,
         answer: &str,
         called: &Called<O>,
-        four: [u64; 4],
+        told: Told,
         output: &[O],
         arguments: impl Fn() -> String,
     ) {
@@ -67,7 +67,7 @@ impl Ledger {
         if let Some(fault) = called.fault {
             fail(operation, self, fault, &arguments(), &[]);
         }
-        let expected = called.expected(four);
+        let expected = called.expected(told);
         if called.answer != expected {
             let sides = [("library", format!("{:?}", called.answer)), ("model", format!("{expected:?}"))];
             fail(operation, self, "another answer", &arguments(), &sides);

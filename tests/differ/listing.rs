@@ -1,6 +1,6 @@
 //! The text of the listing program beside the model.
 
-use crate::border::Border;
+use crate::border::{told, Border};
 use crate::encodings;
 use crate::ledger::Ledger;
 use crate::model;
@@ -30,15 +30,15 @@ impl Listing<'_> {
         let called = self.border.listing(input, out);
         let text = model::listing(input);
         let mut output = out.to_vec();
-        let mut four = [5, 0, 0, 0];
+        let mut tells = told(5, 0, &[]);
         let mut answer = "5".to_string();
         if text.len() <= output.len() {
             output[..text.len()].copy_from_slice(&text);
-            four = [0, 0, text.len() as u64, 0];
+            tells = told(0, 0, &[text.len() as u64]);
             answer = kind(&text);
         }
         let arguments = || format!("listing(input {}, out {})", bytes(input), bytes(out));
-        self.ledger.compare("listing", &answer, &called, four, &output, arguments);
+        self.ledger.compare("listing", &answer, &called, tells, &output, arguments);
     }
 
     /// With an output of about the length of the text.

@@ -88,7 +88,7 @@ impl Codec<'_> {
     }
 
     /// Hands bytes to all that read an encoding. The output has just enough room, and for bytes that are refused more than they can need.
-    fn everywhere(&mut self, order: usize, s: &[u8]) {
+    pub fn everywhere(&mut self, order: usize, s: &[u8]) {
         let row = model::row_of(order as u64, s);
         let count = row.as_ref().map_or(0, |row| row.len());
         let room = if row.is_ok() { count } else { (4 * s.len()).min(model::LONGEST) };
