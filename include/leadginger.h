@@ -15,9 +15,10 @@
    The helpers below take a result apart. The first check that fails decides, in the order in which each function lists its refusals, and
    a refusal writes to no buffer.
 
-   The caller vouches for the buffers: a pointer is not null, even where its length is 0 (as the data() of an empty std::vector may be),
-   and has as many bytes behind it as its length says; the two buffers of leadginger_read do not overlap. The archive to link is for Linux on
-   x86-64, and leadginger_read takes some 25 KB of the stack. */
+   The caller vouches for the buffers: a pointer has as many bytes behind it as its length says, and the two buffers of leadginger_read do
+   not overlap. A pointer may be null where its length is 0 (as the data() of an empty std::vector may be): a null s is then the empty
+   encoding, and a null out an output without room. The archive to link is for Linux on x86-64, and leadginger_read takes some 25 KB of the
+   stack. */
 #ifndef LEADGINGER_H
 #define LEADGINGER_H
 

@@ -1,6 +1,7 @@
 // The header from C++: every name of it is used once, on results known by hand.
 #include <cstdio>
 #include <cstring>
+#include <vector>
 
 #include "leadginger.h"
 #include "leadginger.h"
@@ -42,6 +43,10 @@ int main()
     check(leadginger_answer(result) == LEADGINGER_ACCEPTED && leadginger_value(result) == 600, "total");
     check(leadginger_total(3, row_600, sizeof row_600, 0, 2) == LEADGINGER_SPAN, "span");
     check(leadginger_total(7, row_600, sizeof row_600, 0, 1) == LEADGINGER_ORDER, "order");
+
+    std::vector<uint8_t> none;
+    check(leadginger_read(none.data(), none.size(), none.data(), none.size()) == 0, "an empty vector");
+    check(leadginger_total(3, none.data(), none.size(), 0, 0) == 0, "the total of an empty vector");
 
     for (int answer : answers)
         check(std::strlen(leadginger_words(static_cast<uint64_t>(answer))) > 0, "words");
