@@ -1,4 +1,2 @@
-pub mod Reached
-pub mod Checking
 pub mod Scanning
 pub mod Decoding

@@ -17,13 +17,13 @@ use Rattle.fibonacci.proofs.Checks.{number-is, positive}
 use Rattle.fibonacci.proofs.Sums.{slice-most, slice-more}
 use Rattle.fibonacci.proofs.Rows.{row-numbers, bits-parse, bits-numbers, numbers-bits}
 use Rattle.fibonacci.proofs.Numbers.{first-rises, value-append, number-of}
-use Rattle.decoder.proofs.Reached.{Reached, reached-numbers, reached-zero, reached-one, reached-full, reached-end}
+use Rattle.reading.proofs.Reached.{Reached, reached-numbers, reached-zero, reached-one, reached-full, reached-end}
 use Rattle.fibonacci.proofs.Each.{all-append}
-use Rattle.decoder.proofs.Checking.{Padding, padding-is, padding-not, contents-many, contents-large, contents-rest, contents-good, Numbered, numbered-legal, numbered-large}
+use Rattle.reading.proofs.Checking.{Padding, padding-is, padding-not, contents-many, contents-large, contents-rest, contents-good, Numbered, numbered-legal, numbered-large}
 use Rattle.word_decoder.specs.declared.Front.{Front}
 use Rattle.word_decoder.specs.Words.{Begun, Spanned}
 use Rattle.decoder.specs.Answers.{found}
-use Rattle.decoder.specs.Reading.{contents}
+use Rattle.reading.specs.Reading.{contents}
 
 -- ## Pending bits
 

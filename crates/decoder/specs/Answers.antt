@@ -1,4 +1,4 @@
--- The answers of the functions as paper 01's numbers and values, and what the scan that they share finds.
+-- What the scan that reading, totals and appending share answers, finds and stores.
 use mathlib.Core.Path.{_≡_}
 use mathlib.Core.Bool.{Bool}
 use mathlib.Core.List.{List}
@@ -8,36 +8,10 @@ use lib.Seq.{sets, slice}
 use Rattle.fibonacci.specs.Code.{sum}
 use Rattle.fibonacci.specs.Encoding.{rowBits, numbers}
 use Rattle.fibonacci.specs.Calls.{Outcome, accepted, refused}
-use Rattle.decoder.specs.Reading.{read, readInto}
-use Rattle.decoder.specs.declared.Refusal.{Refusal}
-use Rattle.decoder.specs.declared.Refusal.the-variants.{Order, Bytes, Count, Number, Rest}
+use Rattle.reading.specs.Answers.{refusal}
 use Rattle.decoder.specs.declared.Found.{Found}
 use Rattle.decoder.specs.declared.ScanAnswer.{ScanAnswer}
 use Rattle.decoder.specs.declared.ScanAnswer.the-variants as scan
-use Rattle.decoder.specs.declared.ReadAnswer.{ReadAnswer}
-use Rattle.decoder.specs.declared.ReadAnswer.the-variants as answer
-
--- Why an encoding is not read: the refusal's number and place
-abbrev pub reason : Refusal → ℕ × ℕ
-reason Order = (1, 0)
-reason Bytes = (2, 0)
-reason Count = (4, 0)
-reason (Number place) = (7, place)
-reason Rest = (6, 0)
-
-abbrev pub refusal : {A : Type 0} → Refusal → Outcome A
-refusal r = refused (reason r .0) (reason r .1)
-
-abbrev pub readOutcome : ReadAnswer → Outcome ℕ
-readOutcome (answer.Row count) = accepted count
-readOutcome (answer.Refused r) = refusal r
-readOutcome answer.Room = refused 5 0
-
--- What a reader of order m promises of its answer, and of its output before and after
-abbrev pub ReadPromise : ℕ → List ℕ → List ℕ → ReadAnswer → List ℕ → Type 0
-ReadPromise m s before a after = (readOutcome a ≡ read m s (length before)) × (after ≡ readInto m s before)
-
--- ## The scan
 
 abbrev pub scanOutcome : ScanAnswer → Outcome Found
 scanOutcome (scan.Row f) = accepted f

@@ -1,8 +1,6 @@
 // Reading an encoding of order 2 to 6: by words as far as they go, and then bit by bit; and the scan that totals and appending share with it.
 ghost use mathlib.Core.Path.{_≡_};
-ghost use mathlib.Core.Bool.{_&&_};
 ghost use Prim.Native.Nat.{_+_, _-_, _*_, _^_, _≤_, _<_, min};
-ghost use lib.Dec.{eqb, ltb};
 ghost use lib.ListN.{length, take, set};
 ghost use lib.Seq.{sets};
 ghost use Rattle.bits.specs.Bits.{unpack};
@@ -11,33 +9,12 @@ ghost use Rattle.fibonacci.specs.Encoding.{numbers};
 ghost use Rattle.fibonacci.specs.Tables.{Order, tableRow};
 ghost use Rattle.fibonacci.specs.Calls.{accepted, andThen, largest, longest, mostBytes};
 ghost use Rattle.word_decoder.specs.Words.{Spanned};
-ghost use Rattle.decoder.specs.Reading.{contents, decode};
-ghost use Rattle.decoder.specs.Answers.{ReadPromise, scanOutcome, found, Stored, Kept};
+ghost use Rattle.reading.specs.Reading.{contents, decode};
+ghost use Rattle.reading.specs.Answers.{ReadPromise};
+ghost use Rattle.decoder.specs.Answers.{scanOutcome, found, Stored, Kept};
 
 // So many bytes are read by words, and fewer bit by bit.
 const WORDS_FROM: usize = 17;
-
-// Why an encoding is not read. The numbers are paper 01's.
-pub enum Refusal {
-    // 1: the order is not 2 to 6.
-    Order,
-    // 2: there are more than 24,064 bytes.
-    Bytes,
-    // 4: a 4,097th codeword ends.
-    Count,
-    // 7: the number at this place is above 4,294,967,295.
-    Number(usize),
-    // 6: the rest has 8 bits or more, or holds a one.
-    Rest,
-}
-
-pub enum ReadAnswer {
-    // How many numbers the row has.
-    Row(usize),
-    Refused(Refusal),
-    // 5: the output is shorter than the row.
-    Room,
-}
 
 // What a scan finds: how many numbers the row has, how many bits they take, and the sum of those that it was asked for.
 pub struct Found {
@@ -48,7 +25,7 @@ pub struct Found {
 
 pub enum ScanAnswer {
     Row(Found),
-    Refused(Refusal),
+    Refused(reading::Refusal),
 }
 
 // What `run` ones after `len` pending bits are worth once a zero follows them, by the first numbers: no loop over them. It matters only as long as a number of
@@ -65,16 +42,6 @@ fn ones_value(firsts: &[u32; 47], order: usize, len: usize, run: usize) -> u64
         return 0;
     }
     after - fibonacci::first_number(firsts, order, len + 1)
-}
-
-// The number of a codeword by the bits before its last ones and their value; 0 where it is above 4,294,967,295 by its length alone. The readers check their
-// order before, and each bit or byte of an encoding adds little to a value.
-pub fn number(firsts: &[u32; 47], order: usize, len: usize, val: u64) -> u64
-    requires { ⌜ Order order × (now firsts ≡ tableRow (first order)) × (val < 2 ^ 63) ⌝ }
-    ensures { λ r. ⌜ (first order len ≤ largest → r ≡ first order len + val) × (largest < first order len → r ≡ 0) ⌝ }
-{
-    let least = fibonacci::first_number(firsts, order, len);
-    if least == 0 { 0 } else { least + val }
 }
 
 // Element i becomes n; where i is past the end, the last one does. So a scan that wants no row takes the same branches as one that does, and saves the list.
@@ -96,13 +63,6 @@ fn plus(sum: u64, from: usize, to: usize, i: usize, n: u64) -> u64
         return sum;
     }
     if i < to { sum + n } else { sum }
-}
-
-// Whether pending bits are padding: fewer than 8, and no one among them, which would count in their value or in the ones at their end.
-pub fn is_padding(len: usize, val: u64, run: usize) -> bool
-    ensures { λ r. ⌜ r ≡ (ltb len 8 && (eqb val 0 && eqb run 0)) ⌝ }
-{
-    len < 8 && (val == 0 && run == 0)
 }
 
 // The scan bit by bit, from where codewords were taken by words. Pending are `len` bits, the last of them a zero, whose value is `val`, and then `run` ones.
@@ -132,11 +92,11 @@ fn walk_bits(
             run += 1;
             if run == order {
                 if count == fibonacci::LONGEST {
-                    return ScanAnswer::Refused(Refusal::Count);
+                    return ScanAnswer::Refused(reading::Refusal::Count);
                 }
-                let n = number(firsts, order, len, val);
+                let n = reading::number(firsts, order, len, val);
                 if !fibonacci::is_number(n, limit) {
-                    return ScanAnswer::Refused(Refusal::Number(count));
+                    return ScanAnswer::Refused(reading::Refusal::Number(count));
                 }
                 store(row, count, n);
                 sum = plus(sum, from, to, count, n);
@@ -151,8 +111,8 @@ fn walk_bits(
             run = 0;
         }
     }
-    if !is_padding(len, val, run) {
-        return ScanAnswer::Refused(Refusal::Rest);
+    if !reading::is_padding(len, val, run) {
+        return ScanAnswer::Refused(reading::Refusal::Rest);
     }
     ScanAnswer::Row(Found {
         count,
@@ -222,10 +182,10 @@ fn scan_into(order: usize, s: &[u8], from: usize, to: usize, row: &mut [u32]) ->
     ensures { λ r. ⌜ (scanOutcome r ≡ andThen (decode order (now (s .entry))) (λ row. accepted (found order from to row))) × (to ≡ 0 → min longest (4 * length (now (s .entry))) ≤ length (now (row .entry)) → Stored (decode order (now (s .entry))) (now (row .entry)) (now (row .exit))) ⌝ }
 {
     if !fibonacci::is_order(order) {
-        return ScanAnswer::Refused(Refusal::Order);
+        return ScanAnswer::Refused(reading::Refusal::Order);
     }
     if s.len() > fibonacci::MOST_BYTES {
-        return ScanAnswer::Refused(Refusal::Bytes);
+        return ScanAnswer::Refused(reading::Refusal::Bytes);
     }
     let firsts = fibonacci::first_numbers(order);
     walk(&firsts, order, s, fibonacci::LARGEST, from, to, row)
@@ -240,7 +200,7 @@ pub fn scan(order: usize, s: &[u8], from: usize, to: usize) -> ScanAnswer
 }
 
 // Reads an encoding by way of a list that `read` lends, with room for every row that so many bytes can hold.
-fn read_by(order: usize, s: &[u8], out: &mut [u32], row: &mut [u32]) -> ReadAnswer
+fn read_by(order: usize, s: &[u8], out: &mut [u32], row: &mut [u32]) -> reading::ReadAnswer
     requires { ⌜ (1 ≤ length (now row)) × (min longest (4 * length (now s)) ≤ length (now row)) ⌝ }
     ensures { λ r. ⌜ ReadPromise order (now (s .entry)) (now (out .entry)) r (now (out .exit)) ⌝ }
 {
@@ -249,18 +209,18 @@ fn read_by(order: usize, s: &[u8], out: &mut [u32], row: &mut [u32]) -> ReadAnsw
         ScanAnswer::Row(f) => {
             let count = f.count;
             if out.len() < count {
-                return ReadAnswer::Room;
+                return reading::ReadAnswer::Room;
             }
             lists::copy(out, row, count);
-            ReadAnswer::Row(count)
+            reading::ReadAnswer::Row(count)
         }
-        ScanAnswer::Refused(r) => ReadAnswer::Refused(r),
+        ScanAnswer::Refused(r) => reading::ReadAnswer::Refused(r),
     }
 }
 
 // Reads an encoding. The row goes to a list of its own first, as a refusal must leave the output as it was. No codeword is shorter than two bits, so 16 bytes
 // hold at most 64 numbers; a list of zeros for 4,096 takes longer to make than a few bytes take to read.
-pub fn read(order: usize, s: &[u8], out: &mut [u32]) -> ReadAnswer
+pub fn read(order: usize, s: &[u8], out: &mut [u32]) -> reading::ReadAnswer
     ensures { λ r. ⌜ ReadPromise order (now (s .entry)) (now (out .entry)) r (now (out .exit)) ⌝ }
 {
     if s.len() <= 16 {

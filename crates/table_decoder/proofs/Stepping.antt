@@ -19,7 +19,7 @@ use Rattle.fibonacci.proofs.Parse.{parse-is}
 use Rattle.fibonacci.proofs.Numbers.{first-rises, value-append, number-of}
 use Rattle.byte_table.specs.Table.{one, stem, trail, after, front, byF, byF1, byF2, moved, rowOf, rowAt}
 use Rattle.byte_table.proofs.Moving.{row-moved}
-use Rattle.decoder.proofs.Reached.{Settled, settled-runs}
+use Rattle.reading.proofs.Reached.{Settled, settled-runs}
 
 -- ## Bits and the ones at their end
 

@@ -19,10 +19,10 @@ use Rattle.fibonacci.proofs.Numbers.{codeword-number}
 use Rattle.fibonacci.proofs.Checks.{is-number}
 use Rattle.byte_table.specs.declared.Row.{Row}
 use Rattle.byte_table.specs.Table.{stem, trail, after, front, inside, byF, byF1, byF2, moved, rowOf, rowAt, Small}
-use Rattle.decoder.specs.Reading.{contents}
-use Rattle.decoder.proofs.Reached.{Reached, reached-start, reached-open, reached-shut, reached-numbers, reached-end}
+use Rattle.reading.specs.Reading.{contents}
+use Rattle.reading.proofs.Reached.{Reached, reached-start, reached-open, reached-shut, reached-numbers, reached-end}
 use Rattle.fibonacci.proofs.Each.{all-append}
-use Rattle.decoder.proofs.Checking.{Padding, padding-is, padding-not, contents-many, contents-large, contents-past, contents-rest, contents-good, Numbered, numbered-legal, numbered-large}
+use Rattle.reading.proofs.Checking.{Padding, padding-is, padding-not, contents-many, contents-large, contents-past, contents-rest, contents-good, Numbered, numbered-legal, numbered-large}
 use Rattle.table_decoder.proofs.Stepping.{stem-settled, stem-trail, trail-few, front-ones, row-after, bits-next, Pending, pending-none, pending-left, pending-more, pending-held, pending-near, pending-far}
 
 -- ## Lists

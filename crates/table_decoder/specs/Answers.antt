@@ -7,7 +7,7 @@ use Rattle.fibonacci.specs.Code.{first}
 use Rattle.fibonacci.specs.Tables.{tableRow}
 use Rattle.fibonacci.specs.Calls.{Outcome, accepted, refused}
 use Rattle.byte_table.specs.Table.{headWords, tailWords, positionWords}
-use Rattle.decoder.specs.Answers.{refusal}
+use Rattle.reading.specs.Answers.{refusal}
 use Rattle.table_decoder.specs.declared.RowAnswer.{RowAnswer}
 use Rattle.table_decoder.specs.declared.RowAnswer.the-variants.{Row, Refused}
 

@@ -6,8 +6,8 @@ ghost use lib.ListN.{length, take, drop};
 ghost use lib.Seq.{sets};
 ghost use Rattle.bits.specs.Bits.{unpack};
 ghost use Rattle.fibonacci.specs.Calls.{accepted, andThen, largest, mostBytes};
-ghost use Rattle.decoder.specs.Reading.{contents, decode};
-ghost use Rattle.decoder.specs.Answers.{readOutcome, ReadPromise};
+ghost use Rattle.reading.specs.Reading.{contents, decode};
+ghost use Rattle.reading.specs.Answers.{readOutcome, ReadPromise};
 ghost use Rattle.table_decoder.specs.Reading.{numberBytes, rowBytes, readBytes, readBytesInto};
 ghost use Rattle.table_decoder.specs.Answers.{rowOutcome, Begins, Tables};
 
@@ -18,7 +18,7 @@ const ROOM: usize = 4098;
 enum RowAnswer {
     // How many numbers the row has.
     Row(usize),
-    Refused(decoder::Refusal),
+    Refused(reading::Refusal),
 }
 
 // Three numbers from element i on.
@@ -65,23 +65,23 @@ fn walk(
             val = sum;
         } else {
             if count == fibonacci::LONGEST {
-                return RowAnswer::Refused(decoder::Refusal::Count);
+                return RowAnswer::Refused(reading::Refusal::Count);
             }
-            let n = decoder::number(firsts, 3, end, sum);
+            let n = reading::number(firsts, 3, end, sum);
             if !fibonacci::is_number(n, fibonacci::LARGEST) {
-                return RowAnswer::Refused(decoder::Refusal::Number(count));
+                return RowAnswer::Refused(reading::Refusal::Number(count));
             }
             put(row, count, n, r.second, r.third);
             count += r.count;
             if count > fibonacci::LONGEST {
-                return RowAnswer::Refused(decoder::Refusal::Count);
+                return RowAnswer::Refused(reading::Refusal::Count);
             }
             len = r.left;
             val = r.val;
         }
     }
-    if !decoder::is_padding(len, val, state) {
-        return RowAnswer::Refused(decoder::Refusal::Rest);
+    if !reading::is_padding(len, val, state) {
+        return RowAnswer::Refused(reading::Refusal::Rest);
     }
     RowAnswer::Row(count)
 }
@@ -92,7 +92,7 @@ fn scan_into(s: &[u8], row: &mut [u32; ROOM]) -> RowAnswer
     ensures { λ r. ⌜ (rowOutcome r ≡ andThen (decode 3 (now (s .entry))) (λ row. accepted (length row))) × Begins (decode 3 (now (s .entry))) (now (row .exit)) × (length (now (row .exit)) ≡ 4098) ⌝ }
 {
     if s.len() > fibonacci::MOST_BYTES {
-        return RowAnswer::Refused(decoder::Refusal::Bytes);
+        return RowAnswer::Refused(reading::Refusal::Bytes);
     }
     let heads = byte_table::heads();
     let tails = byte_table::tails();
@@ -102,7 +102,7 @@ fn scan_into(s: &[u8], row: &mut [u32; ROOM]) -> RowAnswer
 }
 
 // Reads an encoding of order 3. The row goes to a list of its own first, as a refusal must leave the output as it was.
-pub fn read(s: &[u8], out: &mut [u32]) -> decoder::ReadAnswer
+pub fn read(s: &[u8], out: &mut [u32]) -> reading::ReadAnswer
     ensures { λ r. ⌜ ReadPromise 3 (now (s .entry)) (now (out .entry)) r (now (out .exit)) ⌝ }
 {
     let mut row: [u32; ROOM] = [0; ROOM];
@@ -110,12 +110,12 @@ pub fn read(s: &[u8], out: &mut [u32]) -> decoder::ReadAnswer
     match scanned {
         RowAnswer::Row(count) => {
             if out.len() < count {
-                return decoder::ReadAnswer::Room;
+                return reading::ReadAnswer::Room;
             }
             lists::copy(out, &row, count);
-            decoder::ReadAnswer::Row(count)
+            reading::ReadAnswer::Row(count)
         }
-        RowAnswer::Refused(r) => decoder::ReadAnswer::Refused(r),
+        RowAnswer::Refused(r) => reading::ReadAnswer::Refused(r),
     }
 }
 
@@ -141,7 +141,7 @@ fn put_row(out: &mut [u8], row: &[u32], n: usize)
 }
 
 // Reads an encoding of order 3 for a host that takes each number as four bytes, the lowest first.
-pub fn read_bytes(s: &[u8], out: &mut [u8]) -> decoder::ReadAnswer
+pub fn read_bytes(s: &[u8], out: &mut [u8]) -> reading::ReadAnswer
     ensures { λ r. ⌜ (readOutcome r ≡ readBytes (now (s .entry)) (length (now (out .entry)))) × (now (out .exit) ≡ readBytesInto (now (s .entry)) (now (out .entry))) ⌝ }
 {
     let mut row: [u32; ROOM] = [0; ROOM];
@@ -149,11 +149,11 @@ pub fn read_bytes(s: &[u8], out: &mut [u8]) -> decoder::ReadAnswer
     match scanned {
         RowAnswer::Row(count) => {
             if out.len() < 4 * count {
-                return decoder::ReadAnswer::Room;
+                return reading::ReadAnswer::Room;
             }
             put_row(out, &row, count);
-            decoder::ReadAnswer::Row(count)
+            reading::ReadAnswer::Row(count)
         }
-        RowAnswer::Refused(r) => decoder::ReadAnswer::Refused(r),
+        RowAnswer::Refused(r) => reading::ReadAnswer::Refused(r),
     }
 }

@@ -5,14 +5,14 @@ ghost use Rattle.totals.specs.Totals.{total, repeatedTotal, totalOutcome
 // The refusals' numbers are paper 01's.
 pub enum TotalAnswer {
     Sum(u64),
-    Refused(decoder::Refusal),
+    Refused(reading::Refusal),
     // 8: the span is not one of the row's.
     Span,
 }
 
 pub enum RepeatedTotalAnswer {
     Sum(u64),
-    Refused(decoder::Refusal),
+    Refused(reading::Refusal),
     // 14: the repeats are not 1 to 10,000.
     Repeats,
 }

@@ -5,9 +5,11 @@ use native.Mathlib.Omega.{arith}
 use lib.ListN.{length, take, drop}
 use Rattle.fibonacci.specs.Calls.{accepted}
 use Rattle.decoder.specs.declared.Found.{Found}
-use Rattle.decoder.specs.Reading.{decode}
-use Rattle.decoder.specs.Answers.{refusal, found}
-use Rattle.decoder.proofs.Decoding.{decode-is, decode-few, stored-row, scan-row, scan-refused, read-row, read-room, read-refused}
+use Rattle.reading.specs.Reading.{decode}
+use Rattle.decoder.specs.Answers.{found}
+use Rattle.reading.specs.Answers.{refusal}
+use Rattle.reading.proofs.Decoding.{decode-is, read-row, read-room, read-refused}
+use Rattle.decoder.proofs.Decoding.{decode-few, stored-row, scan-row, scan-refused}
 use borrow.Author.Needs.{needs}
 use Rattle.decoder.proofs.read_by.Statement.{statement}
 use Rattle.decoder.proofs.read_by.Tie as tie

@@ -3,7 +3,7 @@ use native.Mathlib.Omega.{arith}
 use borrow.Author.Needs.{needs}
 use borrow.Author.Tests.{not-true, not-false}
 use Rattle.fibonacci.proofs.Checks.{order-is}
-use Rattle.decoder.proofs.Decoding.{decode-order, decode-long, decode-contents}
+use Rattle.reading.proofs.Decoding.{decode-order, decode-long, decode-contents}
 use Rattle.decoder.proofs.scan_into.Statement.{statement}
 use Rattle.decoder.proofs.scan_into.Tie as tie
 

@@ -1,7 +1,7 @@
 use native.Mathlib.Omega.{arith}
 use borrow.Author.Needs.{needs}
 use Rattle.bits.specs.Bits.{unpack}
-use Rattle.decoder.specs.Reading.{contents}
+use Rattle.reading.specs.Reading.{contents}
 use Rattle.decoder.proofs.Decoding.{kept-stored}
 use Rattle.decoder.proofs.walk.Statement.{statement}
 use Rattle.decoder.proofs.walk.Tie as tie

@@ -5,8 +5,9 @@ use native.Mathlib.Omega.{arith}
 use native.Mathlib.Nat.{mul-le-mul}
 use Rattle.fibonacci.specs.Calls.{accepted, longest}
 use Rattle.decoder.specs.declared.Found.{Found}
-use Rattle.decoder.specs.Reading.{decode}
-use Rattle.decoder.specs.Answers.{refusal, found}
+use Rattle.reading.specs.Reading.{decode}
+use Rattle.reading.specs.Answers.{refusal}
+use Rattle.decoder.specs.Answers.{found}
 use Rattle.decoder.proofs.Decoding.{scan-row, scan-refused}
 use Rattle.totals.proofs.Totals.{span-most, repeated-sum, repeated-none, repeated-more, repeated-refused}
 use borrow.Author.Needs.{needs}

@@ -4,8 +4,9 @@ use Prim.Native.Nat.{ℕ}
 use native.Mathlib.Omega.{arith}
 use Rattle.fibonacci.specs.Calls.{accepted}
 use Rattle.decoder.specs.declared.Found.{Found}
-use Rattle.decoder.specs.Reading.{decode}
-use Rattle.decoder.specs.Answers.{refusal, found}
+use Rattle.reading.specs.Reading.{decode}
+use Rattle.reading.specs.Answers.{refusal}
+use Rattle.decoder.specs.Answers.{found}
 use Rattle.decoder.proofs.Decoding.{scan-row, scan-refused}
 use Rattle.totals.proofs.Totals.{total-sum, total-turned, total-past, total-refused}
 use borrow.Author.Needs.{needs}

@@ -17,7 +17,7 @@ use Rattle.fibonacci.specs.Encoding.{parsed, parse, numbers}
 use Rattle.fibonacci.specs.Calls.{Outcome, accepted, refused, check, isNumber, Legal, largest, longest}
 use Rattle.fibonacci.proofs.Checks.{both, number-is, above-number}
 use Rattle.fibonacci.proofs.Numeration.{F-pos}
-use Rattle.decoder.specs.Reading.{checkFinished, checkRest, contents}
+use Rattle.reading.specs.Reading.{checkFinished, checkRest, contents}
 
 -- ## Pending bits at the end
 

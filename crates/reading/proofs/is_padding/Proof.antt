@@ -1,6 +1,6 @@
 use borrow.Author.Tests.{lt-ltb, le-ltb, eq-eqb, ne-eqb}
-use Rattle.decoder.proofs.is_padding.Statement.{statement}
-use Rattle.decoder.proofs.is_padding.Tie as tie
+use Rattle.reading.proofs.is_padding.Statement.{statement}
+use Rattle.reading.proofs.is_padding.Tie as tie
 
 returns : tie.Need-returns
 returns c = simp (lt-ltb _ _ (c .before .if1 .taken), eq-eqb _ _ (c .if2 .taken))

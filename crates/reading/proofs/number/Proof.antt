@@ -3,8 +3,8 @@ use borrow.Author.Needs.{needs}
 use Rattle.fibonacci.specs.Code.{first}
 use Rattle.fibonacci.proofs.Numbers.{first-pos}
 use Rattle.fibonacci.proofs.Lookup.{bounded-is, bounded-none, bounded-some}
-use Rattle.decoder.proofs.number.Statement.{statement}
-use Rattle.decoder.proofs.number.Tie as tie
+use Rattle.reading.proofs.number.Statement.{statement}
+use Rattle.reading.proofs.number.Tie as tie
 
 first-number-requires : tie.Need-first-number-requires
 first-number-requires c κs = search needs
