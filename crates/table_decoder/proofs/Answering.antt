@@ -19,9 +19,9 @@ use Rattle.reading.specs.declared.Refusal.{Refusal}
 use Rattle.reading.specs.Answers.{refusal}
 use Rattle.reading.specs.Reading.{decode, read}
 use Rattle.reading.proofs.Decoding.{decode-is, read-parse}
-use Rattle.table_decoder.specs.declared.RowAnswer.{RowAnswer}
-use Rattle.table_decoder.specs.declared.RowAnswer.the-variants.{Row, Refused}
-use Rattle.table_decoder.specs.Answers.{rowOutcome, Begins}
+use Rattle.table_scan.specs.declared.RowAnswer.{RowAnswer}
+use Rattle.table_scan.specs.declared.RowAnswer.the-variants.{Row, Refused}
+use Rattle.table_scan.specs.Answers.{rowOutcome, Begins}
 use Rattle.table_decoder.specs.Reading.{numberBytes, rowBytes, readBytes, readBytesInto}
 use Rattle.table_decoder.specs.Demand.{TwoReaders}
 

@@ -8,8 +8,8 @@ use Rattle.fibonacci.specs.Tables.{tableRow}
 use Rattle.fibonacci.specs.Calls.{Outcome, accepted, refused}
 use Rattle.byte_table.specs.Table.{headWords, tailWords, positionWords}
 use Rattle.reading.specs.Answers.{refusal}
-use Rattle.table_decoder.specs.declared.RowAnswer.{RowAnswer}
-use Rattle.table_decoder.specs.declared.RowAnswer.the-variants.{Row, Refused}
+use Rattle.table_scan.specs.declared.RowAnswer.{RowAnswer}
+use Rattle.table_scan.specs.declared.RowAnswer.the-variants.{Row, Refused}
 
 abbrev pub rowOutcome : RowAnswer → Outcome ℕ
 rowOutcome (Row count) = accepted count

@@ -10,9 +10,9 @@ use borrow.Author.Tests.{not-true, not-false}
 use Rattle.fibonacci.specs.Calls.{accepted, isNumber, largest}
 use Rattle.fibonacci.proofs.Checks.{number-is}
 use Rattle.byte_table.specs.Table.{moved}
-use Rattle.table_decoder.proofs.Walking.{Walked, walked-start, walked-state, walked-open, walked-many, walked-large, walked-past, walked-shut, walked-padding, walked-rest}
-use Rattle.table_decoder.proofs.walk.Statement.{statement}
-use Rattle.table_decoder.proofs.walk.Tie as tie
+use Rattle.table_scan.proofs.Walking.{Walked, walked-start, walked-state, walked-open, walked-many, walked-large, walked-past, walked-shut, walked-padding, walked-rest}
+use Rattle.table_scan.proofs.walk.Statement.{statement}
+use Rattle.table_scan.proofs.walk.Tie as tie
 
 abbrev Inv-loop : tie.InvT-loop
 Inv-loop heads tails positions firsts s row₀ count₀ len₀ val₀ state₀ i₀ i-end row count len val state i =

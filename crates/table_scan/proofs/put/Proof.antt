@@ -3,8 +3,8 @@ use Prim.Native.Nat.{ℕ}
 use native.Mathlib.Numerals.{add-one, add-two}
 use lib.ListN.{set}
 use borrow.Author.Needs.{needs}
-use Rattle.table_decoder.proofs.put.Statement.{statement}
-use Rattle.table_decoder.proofs.put.Tie as tie
+use Rattle.table_scan.proofs.put.Statement.{statement}
+use Rattle.table_scan.proofs.put.Tie as tie
 
 cast-row : tie.Need-cast-row
 cast-row c = search needs

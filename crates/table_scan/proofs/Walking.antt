@@ -23,7 +23,7 @@ use Rattle.reading.specs.Reading.{contents}
 use Rattle.reading.proofs.Reached.{Reached, reached-start, reached-open, reached-shut, reached-numbers, reached-end}
 use Rattle.fibonacci.proofs.Each.{all-append}
 use Rattle.reading.proofs.Checking.{Padding, padding-is, padding-not, contents-many, contents-large, contents-past, contents-rest, contents-good, Numbered, numbered-legal, numbered-large}
-use Rattle.table_decoder.proofs.Stepping.{stem-settled, stem-trail, trail-few, front-ones, row-after, bits-next, Pending, pending-none, pending-left, pending-more, pending-held, pending-near, pending-far}
+use Rattle.table_scan.proofs.Stepping.{stem-settled, stem-trail, trail-few, front-ones, row-after, bits-next, Pending, pending-none, pending-left, pending-more, pending-held, pending-near, pending-far}
 
 -- ## Lists
 

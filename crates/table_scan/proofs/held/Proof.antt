@@ -1,6 +1,6 @@
 use native.Mathlib.Omega.{arith}
-use Rattle.table_decoder.proofs.held.Statement.{statement}
-use Rattle.table_decoder.proofs.held.Tie as tie
+use Rattle.table_scan.proofs.held.Statement.{statement}
+use Rattle.table_scan.proofs.held.Tie as tie
 
 returns : tie.Need-returns
 returns c = (λ h. omega arith, λ h. omega arith)
