@@ -53,8 +53,8 @@ pub fn append(order: usize, buf: &mut [u8], used: usize, n: u32) -> AppendAnswer
     }
     let scanned = decoder::scan(order, &buf[0..used], 0, 0);
     match scanned {
-        decoder::ScanAnswer::Refused(r) => AppendAnswer::Refused(r),
-        decoder::ScanAnswer::Row(f) => {
+        bit_decoder::ScanAnswer::Refused(r) => AppendAnswer::Refused(r),
+        bit_decoder::ScanAnswer::Row(f) => {
             if !fibonacci::is_number(fibonacci::wide(n), fibonacci::LARGEST) {
                 return AppendAnswer::Number;
             }

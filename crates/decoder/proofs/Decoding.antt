@@ -1,5 +1,5 @@
--- How many numbers an encoding holds at most; what a scan found, and what it stored.
-use mathlib.Core.Path.{_≡_, refl, sym, ap, _∙_}
+-- How many numbers an encoding holds at most, and what a scan stores.
+use mathlib.Core.Path.{_≡_, ap, _∙_}
 use mathlib.Core.Bool.{Bool, true}
 use mathlib.Core.List.{List, [], _∷_, _++_, flatten}
 use Prim.Native.Nat.{ℕ, _+_, _-_, _*_, _≤_}
@@ -10,17 +10,12 @@ use Rattle.bits.specs.Bits.{unpack}
 use Rattle.bits.proofs.Bytes.{unpack-length}
 use Rattle.fibonacci.specs.Code.{ones, first, size, codeword}
 use Rattle.fibonacci.specs.Encoding.{rowBits, rest, parse, numbers}
-use Rattle.fibonacci.specs.Calls.{Outcome, accepted, refused, andThen}
+use Rattle.fibonacci.specs.Calls.{Outcome, accepted, refused}
 use Rattle.fibonacci.proofs.Numeration.{digits-length}
 use Rattle.fibonacci.proofs.Rows.{numbers-bits}
-use Rattle.fibonacci.proofs.Checks.{not-both, accepted-one, refused-same}
-use Rattle.reading.specs.declared.Refusal.{Refusal}
-use Rattle.reading.specs.Answers.{refusal}
 use Rattle.reading.proofs.Decoding.{Decoded}
-use Rattle.decoder.specs.declared.Found.{Found}
-use Rattle.decoder.specs.declared.ScanAnswer.{ScanAnswer}
-use Rattle.decoder.specs.declared.ScanAnswer.the-variants.{Row, Refused}
-use Rattle.decoder.specs.Answers.{scanOutcome, found, Stored, Kept}
+use Rattle.bit_decoder.specs.Scan.{Kept}
+use Rattle.decoder.specs.Scan.{Stored}
 
 -- no codeword is shorter than two bits
 bits-least : (m : ℕ) (row : List ℕ) → 2 ≤ m → 2 * length row ≤ length (rowBits m row)
@@ -48,17 +43,7 @@ decode-few m s row d =
       unpack-length s,
     )
 
--- ## What a scan found
-
-pub scan-row : (m from to : ℕ) (d : Outcome (List ℕ)) (f : Found) {r : ScanAnswer} → r ≡ Row f → scanOutcome r ≡ andThen d (λ row. accepted (found m from to row))
-    → (row : List ℕ) × (d ≡ accepted row) × (f ≡ found m from to row)
-scan-row m from to (accepted row) f t e = (row, refl, accepted-one (ap scanOutcome (sym t) ∙ e))
-scan-row m from to (refused n p) f t e = absurd (not-both (sym (ap scanOutcome (sym t) ∙ e)))
-
-pub scan-refused : (m from to : ℕ) (d : Outcome (List ℕ)) (x : Refusal) {r : ScanAnswer} → r ≡ Refused x → scanOutcome r ≡ andThen d (λ row. accepted (found m from to row))
-    → d ≡ refusal x
-scan-refused m from to (accepted row) x t e = absurd (not-both (ap scanOutcome (sym t) ∙ e))
-scan-refused m from to (refused n p) x t e = sym (refused-same (ap scanOutcome (sym t) ∙ e))
+-- ## What a scan stores
 
 -- what was stored before and after makes the row
 pub kept-stored : (m : ℕ) (b : List Bool) (count : ℕ) (d : Outcome (List ℕ)) (over before after : List ℕ) → Kept m b count d before after

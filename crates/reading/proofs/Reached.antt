@@ -1,16 +1,14 @@
 -- How far a scan has come in the parse of a string of bits: which codewords have ended, what is pending, and what any more bits make of it. For any order m.
 use mathlib.Core.Path.{_≡_, refl, sym, ap, _∙_, subst}
-use mathlib.Core.Bool.{Bool, true, false}
+use mathlib.Core.Bool.{Bool, false}
 use mathlib.Core.List.{List, [], _∷_, _++_, append-assoc, append-nil, flatten, map, map-append}
 use mathlib.Core.Logic.{_⊎_, inl, inr}
 use Prim.Native.Nat.{ℕ, _+_, _≤_, _<_}
 use native.Mathlib.Omega.{arith}
-use native.Mathlib.Numerals.{add-one}
-use lib.ListN.{length, getD, drop, drop-of-length-le}
-use lib.Seq.{drop-cons}
+use lib.ListN.{length, drop, drop-of-length-le}
 use Rattle.fibonacci.specs.Code.{ones, runs, number}
 use Rattle.fibonacci.specs.Encoding.{Parse, parsed, codewords, IsParse, push, prepend, parse, numbers}
-use Rattle.fibonacci.proofs.Runs.{runs-ones, runs-cut, runs-reset, runs-all, ones-on}
+use Rattle.fibonacci.proofs.Runs.{runs-ones, runs-cut}
 use Rattle.fibonacci.proofs.Parse.{push-prepend, onto, onto-codewords, onto-parsed, parse-is, parse-flatten, parse-rest, parse-only}
 
 -- ## Bits in front of a parse
@@ -136,35 +134,3 @@ module _ {m : ℕ} {b : List Bool} {k : ℕ} {words : List (List Bool)} {stem : 
         left = carried (w ∷ ws) e ∙ ap (onto words) (behind-prepend stem w (onto ws later)) ∙ onto-append words ((stem ++ w) ∷ ws) later;
         few = few';
       }
-
--- ## Bit by bit
-
-module _ {m : ℕ} {b : List Bool} {k : ℕ} {words : List (List Bool)} {stem : List Bool} {run : ℕ} (h : k < length b) (r : Reached m b k words stem run) where
-  -- the next bit
-  bit-next : (a : Bool) → getD b k false ≡ a → drop k b ≡ (a ∷ []) ++ drop (k + 1) b
-  bit-next a e = drop-cons b k false h ∙ rw e (ap (λ (n : ℕ). a ∷ drop n b) (sym (add-one k)))
-
-  ones-more : ones run ++ (true ∷ []) ≡ ones (run + 1)
-  ones-more = ones-on run [] ∙ ap (λ (t : List Bool). true ∷ t) (append-nil (ones run)) ∙ ap ones (sym (add-one run))
-
-  pub reached-zero : getD b k false ≡ false → Reached m b (k + 1) words (stem ++ (ones run ++ (false ∷ []))) 0
-  reached-zero e =
-      let q : List Bool = ones run ++ (false ∷ []) in
-      let none : runs m q ≡ 0 = runs-reset m run [] (r .few) ∙ (unfold runs in refl) in
-      reached-open r (false ∷ []) (k + 1) (bit-next false e) q 0 (inr (ones run, refl)) (omega (arith, r .few))
-      (parse-rest m q (omega (arith, r .few)) none ∙ ap (parsed []) (sym (append-nil q)))
-
-  pub reached-one : getD b k false ≡ true → run + 1 < m → Reached m b (k + 1) words stem (run + 1)
-  reached-one e l =
-      subst (λ (t : List Bool). Reached m b (k + 1) words t (run + 1)) (append-nil stem)
-      (reached-open r (true ∷ []) (k + 1) (bit-next true e) [] (run + 1) (inl refl) l
-      (ap (parse m) ones-more ∙ parse-rest m (ones (run + 1)) (omega arith) (runs-ones m (run + 1) l)))
-
-  pub reached-full : getD b k false ≡ true → run + 1 ≡ m → Reached m b (k + 1) (words ++ ((stem ++ ones m) ∷ [])) [] 0
-  reached-full e l =
-      reached-shut r (true ∷ []) (k + 1) (bit-next true e) [] 0 (inl refl) (omega arith) (ones m) []
-      (ap (parse m) (ones-more ∙ ap ones l) ∙ sym (parse-only m (ones m) (parsed (ones m ∷ []) []) (omega arith) (record {
-        joined = unfold flatten in append-nil _ ∙ append-nil _;
-        coded = (record { once = runs-all m (omega arith); stem = []; ends = refl }, tt);
-        free = unfold runs in refl;
-      })))

@@ -1,4 +1,4 @@
--- What the scan that reading, totals and appending share answers, finds and stores.
+-- What a scan answers, finds, and leaves in its list.
 use mathlib.Core.Path.{_≡_}
 use mathlib.Core.Bool.{Bool}
 use mathlib.Core.List.{List}
@@ -9,24 +9,20 @@ use Rattle.fibonacci.specs.Code.{sum}
 use Rattle.fibonacci.specs.Encoding.{rowBits, numbers}
 use Rattle.fibonacci.specs.Calls.{Outcome, accepted, refused}
 use Rattle.reading.specs.Answers.{refusal}
-use Rattle.decoder.specs.declared.Found.{Found}
-use Rattle.decoder.specs.declared.ScanAnswer.{ScanAnswer}
-use Rattle.decoder.specs.declared.ScanAnswer.the-variants as scan
+use Rattle.bit_decoder.specs.declared.Found.{Found}
+use Rattle.bit_decoder.specs.declared.ScanAnswer.{ScanAnswer}
+use Rattle.bit_decoder.specs.declared.ScanAnswer.the-variants.{Row, Refused}
 
 abbrev pub scanOutcome : ScanAnswer → Outcome Found
-scanOutcome (scan.Row f) = accepted f
-scanOutcome (scan.Refused r) = refusal r
+scanOutcome (Row f) = accepted f
+scanOutcome (Refused r) = refusal r
 
 -- What a scan tells of a row: how many numbers, how many bits, and the sum of those from one place up to but without another
 abbrev pub found : ℕ → ℕ → ℕ → List ℕ → Found
 found m from to row = record { count = length row; bits = length (rowBits m row); total = sum (slice from to row) }
 
--- The list of a scan of one's own after it: where the scan accepts and the list has room for the row, the row from its start on
-abbrev pub Stored : Outcome (List ℕ) → List ℕ → List ℕ → Type 0
-Stored (accepted row) before after = length row ≤ length before → after ≡ sets before 0 row
-Stored (refused number place) before after = Unit {0}
-
--- The same of a scan that began with the first `count` numbers of b, which were stored over some list
+-- The list of a scan that began with the first `count` numbers of b, which were stored over some list: where it accepts and that has room for the row, the row
+-- from its start on
 abbrev pub Kept : ℕ → List Bool → ℕ → Outcome (List ℕ) → List ℕ → List ℕ → Type 0
 Kept m b count (accepted row) before after =
     (over : List ℕ) → length row ≤ length over → before ≡ sets over 0 (take count (numbers m b)) → after ≡ sets over 0 row

@@ -7,8 +7,8 @@ use Rattle.fibonacci.specs.Code.{ones, value, first}
 use Rattle.fibonacci.specs.Calls.{largest}
 use Rattle.fibonacci.proofs.Numbers.{first-pos, first-rises, value-ones}
 use Rattle.fibonacci.proofs.Lookup.{bounded-is, bounded-none, bounded-some}
-use Rattle.decoder.proofs.ones_value.Statement.{statement}
-use Rattle.decoder.proofs.ones_value.Tie as tie
+use Rattle.bit_decoder.proofs.ones_value.Statement.{statement}
+use Rattle.bit_decoder.proofs.ones_value.Tie as tie
 
 returns : tie.Need-returns
 unfolding value

@@ -1,6 +1,6 @@
 use native.Mathlib.Omega.{arith}
-use Rattle.decoder.proofs.plus.Statement.{statement}
-use Rattle.decoder.proofs.plus.Tie as tie
+use Rattle.bit_decoder.proofs.plus.Statement.{statement}
+use Rattle.bit_decoder.proofs.plus.Tie as tie
 
 returns : tie.Need-returns
 returns c = (λ f t. omega arith, λ f. omega arith, λ t. omega arith)

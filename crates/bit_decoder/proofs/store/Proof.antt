@@ -4,8 +4,8 @@ use Prim.Native.Nat.{ℕ, _-_, _<_, min}
 use native.Mathlib.Omega.{arith}
 use lib.ListN.{length, set}
 use borrow.Author.Needs.{needs}
-use Rattle.decoder.proofs.store.Statement.{statement}
-use Rattle.decoder.proofs.store.Tie as tie
+use Rattle.bit_decoder.proofs.store.Statement.{statement}
+use Rattle.bit_decoder.proofs.store.Tie as tie
 
 -- the place is one of the list's
 placed : (c : tie.Joined1)
