@@ -9,7 +9,7 @@ ghost use Rattle.fibonacci.specs.Encoding.{numbers};
 ghost use Rattle.fibonacci.specs.Tables.{Order, tableRow};
 ghost use Rattle.fibonacci.specs.Calls.{accepted, andThen, largest, longest, mostBytes};
 ghost use Rattle.word_decoder.specs.Words.{Spanned};
-ghost use Rattle.reading.specs.Reading.{contents, decode};
+ghost use Rattle.reading.specs.Reading.{decode};
 ghost use Rattle.reading.specs.Answers.{ReadPromise};
 ghost use Rattle.bit_decoder.specs.Scan.{scanOutcome, found};
 ghost use Rattle.decoder.specs.Scan.{Stored};
@@ -55,24 +55,7 @@ fn take_words(
     word_decoder::take_span(firsts, order, s, limit, from, to)
 }
 
-// The scan after the checks of order and length: by words, and then bit by bit.
-fn walk(
-    firsts: &[u32; 47],
-    order: usize,
-    s: &[u8],
-    limit: u64,
-    from: usize,
-    to: usize,
-    row: &mut [u32],
-) -> bit_decoder::ScanAnswer
-    requires { ⌜ Order order × (now firsts ≡ tableRow (first order)) × (length (now s) ≤ mostBytes) × (limit ≤ largest) × (1 ≤ length (now row)) ⌝ }
-    ensures { λ r. ⌜ (scanOutcome r ≡ andThen (contents limit order (unpack (now (s .entry)))) (λ row. accepted (found order from to row))) × (to ≡ 0 → min longest (4 * length (now (s .entry))) ≤ length (now (row .entry)) → Stored (contents limit order (unpack (now (s .entry)))) (now (row .entry)) (now (row .exit))) ⌝ }
-{
-    let at = take_words(firsts, order, s, limit, from, to, row);
-    bit_decoder::walk_bits(firsts, order, s, limit, from, to, at, row)
-}
-
-// The scan of an encoding: its checks, and what it finds. The row goes to a list of the caller's own.
+// The scan of an encoding: the checks of order and length, and what it finds by words, and then bit by bit. The row goes to a list of the caller's own.
 fn scan_into(
     order: usize,
     s: &[u8],
@@ -90,7 +73,9 @@ fn scan_into(
         return bit_decoder::ScanAnswer::Refused(reading::Refusal::Bytes);
     }
     let firsts = fibonacci::first_numbers(order);
-    walk(&firsts, order, s, fibonacci::LARGEST, from, to, row)
+    let limit = fibonacci::LARGEST;
+    let at = take_words(&firsts, order, s, limit, from, to, row);
+    bit_decoder::walk_bits(&firsts, order, s, limit, from, to, at, row)
 }
 
 // The scan for the calls that want no row: reading's checks, the count, the bits, and the sum of the numbers from one place up to but without another.
