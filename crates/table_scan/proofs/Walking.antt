@@ -7,64 +7,22 @@ use native.Mathlib.Omega.{arith}
 use native.Mathlib.Decide.{decLe}
 use lib.Dec.{ltb, eqb}
 use borrow.Author.Tests.{ne-eqb}
-use lib.ListN.{length, getD, take, drop, length-append, length-map, length-take}
-use lib.Seq.{sets, length-sets, sets-eq, take-append-le, take-append-add}
+use lib.ListN.{length, getD, take, length-append, length-map}
+use lib.Seq.{sets, length-sets}
 use Rattle.bits.specs.Bits.{wordBits, unpack}
 use Rattle.bits.proofs.Bytes.{unpack-length}
-use Rattle.fibonacci.specs.Code.{ones, Codeword, first, number}
-use Rattle.fibonacci.specs.Encoding.{All, Positive, Parse, parsed, codewords, rest, IsParse, parse, numbers}
+use Rattle.fibonacci.specs.Code.{ones, first, number}
+use Rattle.fibonacci.specs.Encoding.{Parse, parsed, rest, IsParse, parse, numbers}
 use Rattle.fibonacci.specs.Calls.{accepted, refused, isNumber, Legal, largest, longest}
 use Rattle.fibonacci.proofs.Parse.{parse-is}
-use Rattle.fibonacci.proofs.Numbers.{codeword-number}
-use Rattle.fibonacci.proofs.Checks.{is-number}
 use Rattle.byte_table.specs.declared.Row.{Row}
 use Rattle.byte_table.specs.Table.{stem, trail, after, front, inside, byF, byF1, byF2, moved, rowOf, rowAt, Small}
 use Rattle.reading.specs.Reading.{contents}
 use Rattle.reading.proofs.Reached.{Reached, reached-start, reached-open, reached-shut, reached-numbers, reached-end}
 use Rattle.fibonacci.proofs.Each.{all-append}
 use Rattle.reading.proofs.Checking.{Padding, padding-is, padding-not, contents-many, contents-large, contents-past, contents-rest, contents-good, Numbered, numbered-legal, numbered-large}
+use Rattle.table_scan.proofs.Inside.{few-are, first-three, few-legal, taken, coded-positive, open-parse, shut-parse}
 use Rattle.table_scan.proofs.Stepping.{stem-settled, stem-trail, trail-few, front-ones, row-after, bits-next, Pending, pending-none, pending-left, pending-more, pending-held, pending-near, pending-far}
-
--- ## Lists
-
--- at most two numbers, by their elements
-few-are : (ns : List ℕ) → length ns ≤ 2 → take (length ns) (getD ns 0 0 ∷ getD ns 1 0 ∷ []) ≡ ns
-few-are [] h = refl
-few-are (a ∷ []) h = refl
-few-are (a ∷ b ∷ []) h = refl
-few-are (a ∷ b ∷ c ∷ ns) h = absurd (omega arith)
-
-first-three : {a b c a' b' c' : ℕ} → a ≡ a' → b ≡ b' → c ≡ c' → (n : ℕ) → take (suc n) (a ∷ b ∷ c ∷ []) ≡ a' ∷ take n (b' ∷ c' ∷ [])
-first-three a b c n = rw (a, b, c) refl
-
-few-legal : (ns : List ℕ) → length ns ≤ 2 → Positive ns → getD ns 0 0 < 16 → getD ns 1 0 < 16 → Legal largest ns
-few-legal [] h p a b = tt
-few-legal (x ∷ []) h p a b = (is-number largest x (p .0) (omega arith), tt)
-few-legal (x ∷ y ∷ []) h p a b = (is-number largest x (p .0) (omega arith), (is-number largest y (p .1 .0) (omega arith), tt))
-few-legal (x ∷ y ∷ z ∷ ns) h p a b = absurd (omega arith)
-
--- the first of them after those of a list, where three are set
-taken : (row new : List ℕ) (count n : ℕ) → count + length new ≤ length row → n ≤ length new → take (count + n) (sets row count new) ≡ take count row ++ take n new
-taken row new count n h k =
-    let long : length (take count row) ≡ count = length-take count row ∙ omega arith in
-    ap (take (count + n)) (sets-eq new row count h)
-    ∙ take-append-le (count + n) (take count row ++ new) (drop (count + length new) row) (omega (arith, length-append (take count row) new, long))
-    ∙ ap (λ (c : ℕ). take (c + n) (take count row ++ new)) (sym long) ∙ take-append-add (take count row) new n
-
--- the numbers of codewords are from 1 up
-coded-positive : (ws : List (List Bool)) → All (Codeword 3) ws → Positive (map (number 3) ws)
-coded-positive [] a = tt
-coded-positive (w ∷ ws) a = (codeword-number 3 w (omega arith) (a .0) .1, coded-positive ws (a .1))
-
--- ## Parses with and without a codeword
-
-open-parse : (p : Parse) → length (codewords p) ≡ 0 → p ≡ parsed [] (rest p)
-open-parse (parsed [] r) e = refl
-open-parse (parsed (w ∷ ws) r) e = absurd (omega arith)
-
-shut-parse : (p : Parse) → (length (codewords p) ≡ 0 → ⊥) → (w : List Bool) × (ws : List (List Bool)) × (p ≡ parsed (w ∷ ws) (rest p))
-shut-parse (parsed [] r) e = absurd (e refl)
-shut-parse (parsed (w ∷ ws) r) e = (w, ws, refl)
 
 -- ## What the loop keeps
 
