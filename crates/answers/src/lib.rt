@@ -2,7 +2,7 @@
 // probes go by it.
 ghost use mathlib.Core.Path.{_≡_};
 ghost use Rattle.fibonacci.specs.Calls.{accepted, refused};
-ghost use Rattle.decoder.specs.Answers.{refusal, readOutcome};
+ghost use Rattle.reading.specs.Answers.{refusal, readOutcome};
 ghost use Rattle.totals.specs.Totals.{totalOutcome, repeatedOutcome};
 ghost use Rattle.encoder.specs.Answers.{writeOutcome};
 ghost use Rattle.appender.specs.Answers.{appendOutcome};
@@ -46,15 +46,15 @@ pub fn refused(number: u64, place: usize) -> Answer
 }
 
 // Why an encoding is not read.
-fn unread(r: decoder::Refusal) -> Answer
+fn unread(r: reading::Refusal) -> Answer
     ensures { λ x. ⌜ values x ≡ five (refusal r) ⌝ }
 {
     match r {
-        decoder::Refusal::Order => refused(1, 0),
-        decoder::Refusal::Bytes => refused(2, 0),
-        decoder::Refusal::Count => refused(4, 0),
-        decoder::Refusal::Number(place) => refused(7, place),
-        decoder::Refusal::Rest => refused(6, 0),
+        reading::Refusal::Order => refused(1, 0),
+        reading::Refusal::Bytes => refused(2, 0),
+        reading::Refusal::Count => refused(4, 0),
+        reading::Refusal::Number(place) => refused(7, place),
+        reading::Refusal::Rest => refused(6, 0),
     }
 }
 
@@ -81,13 +81,13 @@ pub fn of_write(a: encoder::WriteAnswer) -> Answer
     }
 }
 
-pub fn of_read(a: decoder::ReadAnswer) -> Answer
+pub fn of_read(a: reading::ReadAnswer) -> Answer
     ensures { λ r. ⌜ values r ≡ five (single (readOutcome a)) ⌝ }
 {
     match a {
-        decoder::ReadAnswer::Row(count) => accepted(count as u64, 0, 0),
-        decoder::ReadAnswer::Refused(r) => unread(r),
-        decoder::ReadAnswer::Room => refused(5, 0),
+        reading::ReadAnswer::Row(count) => accepted(count as u64, 0, 0),
+        reading::ReadAnswer::Refused(r) => unread(r),
+        reading::ReadAnswer::Room => refused(5, 0),
     }
 }
 

@@ -18,8 +18,8 @@ use Rattle.fibonacci.specs.Encoding.{rowBits, encoding, rest, parse, numbers}
 use Rattle.fibonacci.specs.Calls.{Outcome, accepted, refused, answerNumber, buffer, isOrder, isNumber, largest, longest, mostBytes}
 use Rattle.fibonacci.proofs.Checks.{is-order, number-is, refused-same}
 use Rattle.fibonacci.proofs.Rows.{numbers-bits}
-use Rattle.decoder.specs.Reading.{contents, decode}
-use Rattle.decoder.proofs.Decoding.{decode-long, decode-contents, decode-is}
+use Rattle.reading.specs.Reading.{contents, decode}
+use Rattle.reading.proofs.Decoding.{decode-long, decode-contents, decode-is}
 use Rattle.codewords.proofs.Codewords.{stem-long}
 use Rattle.encoder.proofs.Rows.{bits-snoc}
 use Rattle.appender.specs.Appending.{append, appendFull, appendInto}

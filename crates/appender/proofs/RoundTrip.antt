@@ -17,8 +17,8 @@ use Rattle.fibonacci.specs.Tables.{Order}
 use Rattle.fibonacci.specs.Calls.{accepted, isNumber, Legal, largest, longest}
 use Rattle.fibonacci.proofs.Checks.{is-order, is-number, positive}
 use Rattle.fibonacci.proofs.Rows.{bits-append, numbers-bits, encoding-parse, encoding-read}
-use Rattle.decoder.specs.Reading.{decode, read, readInto}
-use Rattle.decoder.proofs.Decoding.{decode-is, decode-accepts, read-is, read-row}
+use Rattle.reading.specs.Reading.{decode, read, readInto}
+use Rattle.reading.proofs.Decoding.{decode-is, decode-accepts, read-is, read-row}
 use Rattle.totals.specs.Totals.{total, repeatedTotal}
 use Rattle.totals.proofs.Totals.{total-sum, repeated-sum}
 use Rattle.encoder.specs.Writing.{write, writeInto}

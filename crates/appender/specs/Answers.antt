@@ -2,7 +2,7 @@
 use mathlib.Core.Bool.{Bool, true, false}
 use Prim.Native.Nat.{ℕ}
 use Rattle.fibonacci.specs.Calls.{Outcome, accepted, refused}
-use Rattle.decoder.specs.Answers.{refusal}
+use Rattle.reading.specs.Answers.{refusal}
 use Rattle.appender.specs.declared.AppendAnswer.{AppendAnswer}
 use Rattle.appender.specs.declared.AppendAnswer.the-variants as append
 

@@ -7,7 +7,7 @@ use lib.ListN.{length, take}
 use Rattle.bits.specs.Bits.{unpack}
 use Rattle.fibonacci.specs.Encoding.{encoding, numbers}
 use Rattle.fibonacci.specs.Calls.{Outcome, accepted, answerNumber, check, andThen, buffer, isOrder, isNumber, largest, longest, mostBytes}
-use Rattle.decoder.specs.Reading.{contents, decode}
+use Rattle.reading.specs.Reading.{contents, decode}
 
 -- Append to the encoding in the first bytes of a buffer: 1; 2 bytes in use above 24,064 or above the buffer; 4, 7 and 6 as reading has them; 3 the number
 -- is 0; 4 the row has 4,096 already; 5 the longer encoding passes the buffer; else the new bytes in use and the new count

@@ -6,7 +6,7 @@ use lib.ListN.{length, take, drop}
 use Rattle.bits.specs.Bits.{Bytes}
 use Rattle.fibonacci.specs.Encoding.{rowBits}
 use Rattle.fibonacci.specs.Calls.{Outcome, accepted, andThen}
-use Rattle.decoder.specs.Reading.{read, readInto}
+use Rattle.reading.specs.Reading.{read, readInto}
 use Rattle.encoder.specs.Writing.{write, writeInto}
 use Rattle.appender.specs.Appending.{append, appendInto}
 

@@ -14,7 +14,7 @@ pub enum AppendAnswer {
     // The bytes now in use, and how many numbers they hold.
     Appended { bytes: usize, count: usize },
     // 1, 2, 4, 7, 6: the encoding in the buffer is not read; also 2 where its bytes pass the buffer.
-    Refused(decoder::Refusal),
+    Refused(reading::Refusal),
     // 3: the number is 0.
     Number,
     // 4: the row has 4,096 numbers already.
@@ -46,15 +46,15 @@ pub fn append(order: usize, buf: &mut [u8], used: usize, n: u32) -> AppendAnswer
     ensures { λ r. ⌜ (appendOutcome r ≡ append order (now (buf .entry)) used n) × (isFull r ≡ appendFull order (now (buf .entry)) used n) × (now (buf .exit) ≡ appendInto order (now (buf .entry)) used n) ⌝ }
 {
     if !fibonacci::is_order(order) {
-        return AppendAnswer::Refused(decoder::Refusal::Order);
+        return AppendAnswer::Refused(reading::Refusal::Order);
     }
     if used > buf.len() {
-        return AppendAnswer::Refused(decoder::Refusal::Bytes);
+        return AppendAnswer::Refused(reading::Refusal::Bytes);
     }
     let scanned = decoder::scan(order, &buf[0..used], 0, 0);
     match scanned {
-        decoder::ScanAnswer::Refused(r) => AppendAnswer::Refused(r),
-        decoder::ScanAnswer::Row(f) => {
+        bit_decoder::ScanAnswer::Refused(r) => AppendAnswer::Refused(r),
+        bit_decoder::ScanAnswer::Row(f) => {
             if !fibonacci::is_number(fibonacci::wide(n), fibonacci::LARGEST) {
                 return AppendAnswer::Number;
             }

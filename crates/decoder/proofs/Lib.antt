@@ -1,4 +1,1 @@
-pub mod Reached
-pub mod Checking
-pub mod Scanning
 pub mod Decoding

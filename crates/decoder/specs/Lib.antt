@@ -1,3 +1,1 @@
-pub mod Reading
-pub mod Answers
-pub mod Demand
+pub mod Scan

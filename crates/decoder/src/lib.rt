@@ -1,165 +1,21 @@
 // Reading an encoding of order 2 to 6: by words as far as they go, and then bit by bit; and the scan that totals and appending share with it.
 ghost use mathlib.Core.Path.{_≡_};
-ghost use mathlib.Core.Bool.{_&&_};
-ghost use Prim.Native.Nat.{_+_, _-_, _*_, _^_, _≤_, _<_, min};
-ghost use lib.Dec.{eqb, ltb};
-ghost use lib.ListN.{length, take, set};
+ghost use Prim.Native.Nat.{_*_, _≤_, min};
+ghost use lib.ListN.{length, take};
 ghost use lib.Seq.{sets};
 ghost use Rattle.bits.specs.Bits.{unpack};
-ghost use Rattle.fibonacci.specs.Code.{ones, value, first};
+ghost use Rattle.fibonacci.specs.Code.{first};
 ghost use Rattle.fibonacci.specs.Encoding.{numbers};
 ghost use Rattle.fibonacci.specs.Tables.{Order, tableRow};
 ghost use Rattle.fibonacci.specs.Calls.{accepted, andThen, largest, longest, mostBytes};
 ghost use Rattle.word_decoder.specs.Words.{Spanned};
-ghost use Rattle.decoder.specs.Reading.{contents, decode};
-ghost use Rattle.decoder.specs.Answers.{ReadPromise, scanOutcome, found, Stored, Kept};
+ghost use Rattle.reading.specs.Reading.{decode};
+ghost use Rattle.reading.specs.Answers.{ReadPromise};
+ghost use Rattle.bit_decoder.specs.Scan.{scanOutcome, found};
+ghost use Rattle.decoder.specs.Scan.{Stored};
 
 // So many bytes are read by words, and fewer bit by bit.
 const WORDS_FROM: usize = 17;
-
-// Why an encoding is not read. The numbers are paper 01's.
-pub enum Refusal {
-    // 1: the order is not 2 to 6.
-    Order,
-    // 2: there are more than 24,064 bytes.
-    Bytes,
-    // 4: a 4,097th codeword ends.
-    Count,
-    // 7: the number at this place is above 4,294,967,295.
-    Number(usize),
-    // 6: the rest has 8 bits or more, or holds a one.
-    Rest,
-}
-
-pub enum ReadAnswer {
-    // How many numbers the row has.
-    Row(usize),
-    Refused(Refusal),
-    // 5: the output is shorter than the row.
-    Room,
-}
-
-// What a scan finds: how many numbers the row has, how many bits they take, and the sum of those that it was asked for.
-pub struct Found {
-    pub count: usize,
-    pub bits: usize,
-    pub total: u64,
-}
-
-pub enum ScanAnswer {
-    Row(Found),
-    Refused(Refusal),
-}
-
-// What `run` ones after `len` pending bits are worth once a zero follows them, by the first numbers: no loop over them. It matters only as long as a number of
-// that length can be at most 4,294,967,295; past that the table has no first number, and the result is 0.
-fn ones_value(firsts: &[u32; 47], order: usize, len: usize, run: usize) -> u64
-    requires { ⌜ Order order × (now firsts ≡ tableRow (first order)) × (len + run < 2 ^ 32) ⌝ }
-    ensures { λ r. ⌜ (first order (len + run + 1) ≤ largest → r ≡ value order (len + 1) (ones run)) × (r ≤ largest) ⌝ }
-{
-    if run == 0 {
-        return 0;
-    }
-    let after = fibonacci::first_number(firsts, order, len + run + 1);
-    if after == 0 {
-        return 0;
-    }
-    after - fibonacci::first_number(firsts, order, len + 1)
-}
-
-// The number of a codeword by the bits before its last ones and their value; 0 where it is above 4,294,967,295 by its length alone. The readers check their
-// order before, and each bit or byte of an encoding adds little to a value.
-pub fn number(firsts: &[u32; 47], order: usize, len: usize, val: u64) -> u64
-    requires { ⌜ Order order × (now firsts ≡ tableRow (first order)) × (val < 2 ^ 63) ⌝ }
-    ensures { λ r. ⌜ (first order len ≤ largest → r ≡ first order len + val) × (largest < first order len → r ≡ 0) ⌝ }
-{
-    let least = fibonacci::first_number(firsts, order, len);
-    if least == 0 { 0 } else { least + val }
-}
-
-// Element i becomes n; where i is past the end, the last one does. So a scan that wants no row takes the same branches as one that does, and saves the list.
-fn store(row: &mut [u32], i: usize, n: u64)
-    requires { ⌜ (n ≤ largest) × (1 ≤ length (now row)) ⌝ }
-    ensures { λ r. ⌜ now (row .exit) ≡ set (now (row .entry)) (min i (length (now (row .entry)) - 1)) n ⌝ }
-{
-    let last = row.len() - 1;
-    let place = if i < last { i } else { last };
-    row[place] = n as u32;
-}
-
-// A sum with the number n of place i, which counts where the place is one of those asked for.
-fn plus(sum: u64, from: usize, to: usize, i: usize, n: u64) -> u64
-    requires { ⌜ sum + n < 2 ^ 64 ⌝ }
-    ensures { λ r. ⌜ (from ≤ i → i < to → r ≡ sum + n) × (i < from → r ≡ sum) × (to ≤ i → r ≡ sum) ⌝ }
-{
-    if i < from {
-        return sum;
-    }
-    if i < to { sum + n } else { sum }
-}
-
-// Whether pending bits are padding: fewer than 8, and no one among them, which would count in their value or in the ones at their end.
-pub fn is_padding(len: usize, val: u64, run: usize) -> bool
-    ensures { λ r. ⌜ r ≡ (ltb len 8 && (eqb val 0 && eqb run 0)) ⌝ }
-{
-    len < 8 && (val == 0 && run == 0)
-}
-
-// The scan bit by bit, from where codewords were taken by words. Pending are `len` bits, the last of them a zero, whose value is `val`, and then `run` ones.
-// The numbers go up to a limit. They are stored; where the list is too short for the row, the list is of no use then.
-fn walk_bits(
-    firsts: &[u32; 47],
-    order: usize,
-    s: &[u8],
-    limit: u64,
-    from: usize,
-    to: usize,
-    at: word_decoder::Front,
-    row: &mut [u32],
-) -> ScanAnswer
-    requires { ⌜ Order order × (now firsts ≡ tableRow (first order)) × (length (now s) < 2 ^ 28) × (limit ≤ largest) × (1 ≤ length (now row)) × Spanned order limit from to (unpack (now s)) at ⌝ }
-    ensures { λ r. ⌜ (scanOutcome r ≡ andThen (contents limit order (unpack (now (s .entry)))) (λ row. accepted (found order from to row))) × Kept order (unpack (now (s .entry))) (at .count) (contents limit order (unpack (now (s .entry)))) (now (row .entry)) (now (row .exit)) ⌝ }
-{
-    let end = 8 * s.len();
-    let start = at.bit;
-    let mut count = at.count;
-    let mut sum = at.sum;
-    let mut len: usize = 0;
-    let mut val: u64 = 0;
-    let mut run: usize = 0;
-    for k in start..end {
-        if bits::bit(s, k) {
-            run += 1;
-            if run == order {
-                if count == fibonacci::LONGEST {
-                    return ScanAnswer::Refused(Refusal::Count);
-                }
-                let n = number(firsts, order, len, val);
-                if !fibonacci::is_number(n, limit) {
-                    return ScanAnswer::Refused(Refusal::Number(count));
-                }
-                store(row, count, n);
-                sum = plus(sum, from, to, count, n);
-                count += 1;
-                len = 0;
-                val = 0;
-                run = 0;
-            }
-        } else {
-            val += ones_value(firsts, order, len, run);
-            len += run + 1;
-            run = 0;
-        }
-    }
-    if !is_padding(len, val, run) {
-        return ScanAnswer::Refused(Refusal::Rest);
-    }
-    ScanAnswer::Row(Found {
-        count,
-        bits: end - len,
-        total: sum,
-    })
-}
 
 // How many numbers so many bytes hold at most: no codeword is shorter than two bits.
 fn most_numbers(bytes: usize) -> usize
@@ -199,40 +55,31 @@ fn take_words(
     word_decoder::take_span(firsts, order, s, limit, from, to)
 }
 
-// The scan after the checks of order and length: by words, and then bit by bit.
-fn walk(
-    firsts: &[u32; 47],
+// The scan of an encoding: the checks of order and length, and what it finds by words, and then bit by bit. The row goes to a list of the caller's own.
+fn scan_into(
     order: usize,
     s: &[u8],
-    limit: u64,
     from: usize,
     to: usize,
     row: &mut [u32],
-) -> ScanAnswer
-    requires { ⌜ Order order × (now firsts ≡ tableRow (first order)) × (length (now s) ≤ mostBytes) × (limit ≤ largest) × (1 ≤ length (now row)) ⌝ }
-    ensures { λ r. ⌜ (scanOutcome r ≡ andThen (contents limit order (unpack (now (s .entry)))) (λ row. accepted (found order from to row))) × (to ≡ 0 → min longest (4 * length (now (s .entry))) ≤ length (now (row .entry)) → Stored (contents limit order (unpack (now (s .entry)))) (now (row .entry)) (now (row .exit))) ⌝ }
-{
-    let at = take_words(firsts, order, s, limit, from, to, row);
-    walk_bits(firsts, order, s, limit, from, to, at, row)
-}
-
-// The scan of an encoding: its checks, and what it finds. The row goes to a list of the caller's own.
-fn scan_into(order: usize, s: &[u8], from: usize, to: usize, row: &mut [u32]) -> ScanAnswer
+) -> bit_decoder::ScanAnswer
     requires { ⌜ 1 ≤ length (now row) ⌝ }
     ensures { λ r. ⌜ (scanOutcome r ≡ andThen (decode order (now (s .entry))) (λ row. accepted (found order from to row))) × (to ≡ 0 → min longest (4 * length (now (s .entry))) ≤ length (now (row .entry)) → Stored (decode order (now (s .entry))) (now (row .entry)) (now (row .exit))) ⌝ }
 {
     if !fibonacci::is_order(order) {
-        return ScanAnswer::Refused(Refusal::Order);
+        return bit_decoder::ScanAnswer::Refused(reading::Refusal::Order);
     }
     if s.len() > fibonacci::MOST_BYTES {
-        return ScanAnswer::Refused(Refusal::Bytes);
+        return bit_decoder::ScanAnswer::Refused(reading::Refusal::Bytes);
     }
     let firsts = fibonacci::first_numbers(order);
-    walk(&firsts, order, s, fibonacci::LARGEST, from, to, row)
+    let limit = fibonacci::LARGEST;
+    let at = take_words(&firsts, order, s, limit, from, to, row);
+    bit_decoder::walk_bits(&firsts, order, s, limit, from, to, at, row)
 }
 
 // The scan for the calls that want no row: reading's checks, the count, the bits, and the sum of the numbers from one place up to but without another.
-pub fn scan(order: usize, s: &[u8], from: usize, to: usize) -> ScanAnswer
+pub fn scan(order: usize, s: &[u8], from: usize, to: usize) -> bit_decoder::ScanAnswer
     ensures { λ r. ⌜ scanOutcome r ≡ andThen (decode order (now (s .entry))) (λ row. accepted (found order from to row)) ⌝ }
 {
     let mut row: [u32; 1] = [0];
@@ -240,27 +87,27 @@ pub fn scan(order: usize, s: &[u8], from: usize, to: usize) -> ScanAnswer
 }
 
 // Reads an encoding by way of a list that `read` lends, with room for every row that so many bytes can hold.
-fn read_by(order: usize, s: &[u8], out: &mut [u32], row: &mut [u32]) -> ReadAnswer
+fn read_by(order: usize, s: &[u8], out: &mut [u32], row: &mut [u32]) -> reading::ReadAnswer
     requires { ⌜ (1 ≤ length (now row)) × (min longest (4 * length (now s)) ≤ length (now row)) ⌝ }
     ensures { λ r. ⌜ ReadPromise order (now (s .entry)) (now (out .entry)) r (now (out .exit)) ⌝ }
 {
     let scanned = scan_into(order, s, 0, 0, row);
     match scanned {
-        ScanAnswer::Row(f) => {
+        bit_decoder::ScanAnswer::Row(f) => {
             let count = f.count;
             if out.len() < count {
-                return ReadAnswer::Room;
+                return reading::ReadAnswer::Room;
             }
             lists::copy(out, row, count);
-            ReadAnswer::Row(count)
+            reading::ReadAnswer::Row(count)
         }
-        ScanAnswer::Refused(r) => ReadAnswer::Refused(r),
+        bit_decoder::ScanAnswer::Refused(r) => reading::ReadAnswer::Refused(r),
     }
 }
 
 // Reads an encoding. The row goes to a list of its own first, as a refusal must leave the output as it was. No codeword is shorter than two bits, so 16 bytes
 // hold at most 64 numbers; a list of zeros for 4,096 takes longer to make than a few bytes take to read.
-pub fn read(order: usize, s: &[u8], out: &mut [u32]) -> ReadAnswer
+pub fn read(order: usize, s: &[u8], out: &mut [u32]) -> reading::ReadAnswer
     ensures { λ r. ⌜ ReadPromise order (now (s .entry)) (now (out .entry)) r (now (out .exit)) ⌝ }
 {
     if s.len() <= 16 {

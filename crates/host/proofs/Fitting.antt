@@ -11,8 +11,8 @@ use borrow.Author.Tests.{le-leb}
 use Rattle.bits.specs.Bits.{unpack, count}
 use Rattle.fibonacci.specs.Encoding.{rest, parse, numbers}
 use Rattle.fibonacci.specs.Calls.{Outcome, accepted, refused, check, andThen, isOrder, isNumber, largest, longest, mostBytes}
-use Rattle.decoder.specs.Reading.{checkFinished, contents, decode}
-use Rattle.decoder.proofs.Decoding.{decode-is}
+use Rattle.reading.specs.Reading.{checkFinished, contents, decode}
+use Rattle.reading.proofs.Decoding.{decode-is}
 use Rattle.totals.specs.Totals.{total}
 use Rattle.totals.proofs.Totals.{span-most}
 use Rattle.table_decoder.specs.Reading.{readBytes}

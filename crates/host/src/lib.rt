@@ -3,22 +3,22 @@ ghost use mathlib.Core.Path.{_≡_};
 ghost use Prim.Native.Nat.{_≤_};
 ghost use lib.ListN.{length};
 ghost use Rattle.fibonacci.specs.Calls.{longest};
-ghost use Rattle.decoder.specs.Answers.{reason, refusal};
+ghost use Rattle.reading.specs.Answers.{reason, refusal};
 ghost use Rattle.totals.specs.Totals.{total};
 ghost use Rattle.table_decoder.specs.Reading.{readBytes, readBytesInto};
 ghost use Rattle.host.specs.Host.{hostNumber};
 
 // The host's number for an encoding that is not read.
-fn unread(r: decoder::Refusal) -> u64
+fn unread(r: reading::Refusal) -> u64
     requires { ⌜ reason r .1 ≤ longest ⌝ }
     ensures { λ n. ⌜ n ≡ hostNumber (refusal r) ⌝ }
 {
     match r {
-        decoder::Refusal::Order => 1,
-        decoder::Refusal::Bytes => 2,
-        decoder::Refusal::Count => 4,
-        decoder::Refusal::Number(place) => 7 + 32 * place as u64,
-        decoder::Refusal::Rest => 6,
+        reading::Refusal::Order => 1,
+        reading::Refusal::Bytes => 2,
+        reading::Refusal::Count => 4,
+        reading::Refusal::Number(place) => 7 + 32 * place as u64,
+        reading::Refusal::Rest => 6,
     }
 }
 
@@ -29,9 +29,9 @@ pub extern "C" fn leadginger_read(s: &[u8], out: &mut [u8]) -> u64
 {
     let answer = table_decoder::read_bytes(s, out);
     match answer {
-        decoder::ReadAnswer::Row(count) => 32 * count as u64,
-        decoder::ReadAnswer::Refused(r) => unread(r),
-        decoder::ReadAnswer::Room => 5,
+        reading::ReadAnswer::Row(count) => 32 * count as u64,
+        reading::ReadAnswer::Refused(r) => unread(r),
+        reading::ReadAnswer::Room => 5,
     }
 }
 

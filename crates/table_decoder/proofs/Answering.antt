@@ -15,13 +15,13 @@ use Rattle.bits.proofs.Lists.{flatten-map-append}
 use Rattle.fibonacci.specs.Encoding.{numbers}
 use Rattle.fibonacci.specs.Calls.{Outcome, accepted, refused, check, andThen}
 use Rattle.fibonacci.proofs.Checks.{check-passed, then-passed, not-both, accepted-one, refused-same}
-use Rattle.decoder.specs.declared.Refusal.{Refusal}
-use Rattle.decoder.specs.Answers.{refusal}
-use Rattle.decoder.specs.Reading.{decode, read}
-use Rattle.decoder.proofs.Decoding.{decode-is, read-parse}
-use Rattle.table_decoder.specs.declared.RowAnswer.{RowAnswer}
-use Rattle.table_decoder.specs.declared.RowAnswer.the-variants.{Row, Refused}
-use Rattle.table_decoder.specs.Answers.{rowOutcome, Begins}
+use Rattle.reading.specs.declared.Refusal.{Refusal}
+use Rattle.reading.specs.Answers.{refusal}
+use Rattle.reading.specs.Reading.{decode, read}
+use Rattle.reading.proofs.Decoding.{decode-is, read-parse}
+use Rattle.table_scan.specs.declared.RowAnswer.{RowAnswer}
+use Rattle.table_scan.specs.declared.RowAnswer.the-variants.{Row, Refused}
+use Rattle.table_scan.specs.Answers.{rowOutcome, Begins}
 use Rattle.table_decoder.specs.Reading.{numberBytes, rowBytes, readBytes, readBytesInto}
 use Rattle.table_decoder.specs.Demand.{TwoReaders}
 

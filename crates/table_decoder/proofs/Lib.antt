@@ -1,3 +1,1 @@
-pub mod Stepping
-pub mod Walking
 pub mod Answering

@@ -6,10 +6,10 @@ use lib.ListN.{length, drop}
 use Rattle.bits.specs.Bits.{unpack}
 use Rattle.fibonacci.specs.Encoding.{numbers}
 use Rattle.fibonacci.specs.Calls.{accepted}
-use Rattle.decoder.specs.declared.ReadAnswer.{ReadAnswer}
-use Rattle.decoder.specs.Answers.{readOutcome, ReadPromise}
-use Rattle.decoder.specs.Reading.{read, readInto}
-use Rattle.decoder.specs.Demand.{ReturnsParse}
+use Rattle.reading.specs.declared.ReadAnswer.{ReadAnswer}
+use Rattle.reading.specs.Answers.{readOutcome, ReadPromise}
+use Rattle.reading.specs.Reading.{read, readInto}
+use Rattle.reading.specs.Demand.{ReturnsParse}
 use Rattle.table_decoder.specs.Reading.{rowBytes, readBytes, readBytesInto}
 
 pub record TwoReaders : Type 0 where

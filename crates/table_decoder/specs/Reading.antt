@@ -7,7 +7,7 @@ use lib.ListN.{length}
 use Rattle.bits.specs.Bits.{unpack}
 use Rattle.fibonacci.specs.Encoding.{numbers}
 use Rattle.fibonacci.specs.Calls.{Outcome, accepted, check, andThen, buffer}
-use Rattle.decoder.specs.Reading.{decode}
+use Rattle.reading.specs.Reading.{decode}
 
 -- A number of the row is four bytes, the lowest first
 abbrev pub numberBytes : ℕ → List ℕ

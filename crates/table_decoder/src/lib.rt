@@ -1,121 +1,45 @@
 // Reading an encoding of order 3 byte by byte, by a table of 768 rows.
 ghost use mathlib.Core.Path.{_≡_};
-ghost use mathlib.Core.List.{_++_, _∷_, []};
-ghost use Prim.Native.Nat.{_+_, _*_, _≤_, _<_};
+ghost use mathlib.Core.List.{_++_};
+ghost use Prim.Native.Nat.{_+_, _*_, _≤_};
 ghost use lib.ListN.{length, take, drop};
 ghost use lib.Seq.{sets};
-ghost use Rattle.bits.specs.Bits.{unpack};
-ghost use Rattle.fibonacci.specs.Calls.{accepted, andThen, largest, mostBytes};
-ghost use Rattle.decoder.specs.Reading.{contents, decode};
-ghost use Rattle.decoder.specs.Answers.{readOutcome, ReadPromise};
+ghost use Rattle.fibonacci.specs.Calls.{accepted, andThen};
+ghost use Rattle.reading.specs.Reading.{decode};
+ghost use Rattle.reading.specs.Answers.{readOutcome, ReadPromise};
+ghost use Rattle.table_scan.specs.Answers.{rowOutcome, Begins};
 ghost use Rattle.table_decoder.specs.Reading.{numberBytes, rowBytes, readBytes, readBytesInto};
-ghost use Rattle.table_decoder.specs.Answers.{rowOutcome, Begins, Tables};
-
-// The first number that a byte ends goes to place 4,095 at most, and two more may follow it.
-const ROOM: usize = 4098;
-
-// What the scan answers.
-enum RowAnswer {
-    // How many numbers the row has.
-    Row(usize),
-    Refused(decoder::Refusal),
-}
-
-// Three numbers from element i on.
-fn put(row: &mut [u32; ROOM], i: usize, first: u64, second: u32, third: u32)
-    requires { ⌜ (i < 4096) × (length (now row) ≡ 4098) × (first ≤ largest) ⌝ }
-    ensures { λ r. ⌜ now (row .exit) ≡ sets (now (row .entry)) i (first ∷ second ∷ third ∷ []) ⌝ }
-{
-    row[i] = first as u32;
-    row[i + 1] = second;
-    row[i + 2] = third;
-}
-
-// A pending length up to 37. No codeword with 37 bits or more before its last ones has a legal number, so how many more they are does not matter.
-fn held(len: usize) -> usize
-    ensures { λ r. ⌜ (len < 37 → r ≡ len) × (37 ≤ len → r ≡ 37) ⌝ }
-{
-    if len < 37 { len } else { 37 }
-}
-
-// The scan after the check of the length, byte by byte. Pending are `len` bits up to a zero, whose value is `val`, or at least so many where `len` is 37, and
-// then as many ones as `state` has 256s: the rows for the next byte begin there.
-fn walk(
-    heads: &[u32; 768],
-    tails: &[u32; 768],
-    positions: &[u32; 40],
-    firsts: &[u32; 47],
-    s: &[u8],
-    row: &mut [u32; ROOM],
-) -> RowAnswer
-    requires { ⌜ Tables (now heads) (now tails) (now positions) (now firsts) × (length (now s) ≤ mostBytes) × (length (now row) ≡ 4098) ⌝ }
-    ensures { λ r. ⌜ (rowOutcome r ≡ andThen (contents largest 3 (unpack (now (s .entry)))) (λ row. accepted (length row))) × Begins (contents largest 3 (unpack (now (s .entry)))) (now (row .exit)) × (length (now (row .exit)) ≡ 4098) ⌝ }
-{
-    let mut count: usize = 0;
-    let mut len: usize = 0;
-    let mut val: u64 = 0;
-    let mut state: usize = 0;
-    for i in 0..s.len() {
-        let r = byte_table::look_up(heads, tails, state + s[i] as usize);
-        let end = len + r.len;
-        let sum = val + byte_table::moved(positions, len, r.x, r.y, r.z);
-        state = r.next;
-        if r.count == 0 {
-            len = held(end);
-            val = sum;
-        } else {
-            if count == fibonacci::LONGEST {
-                return RowAnswer::Refused(decoder::Refusal::Count);
-            }
-            let n = decoder::number(firsts, 3, end, sum);
-            if !fibonacci::is_number(n, fibonacci::LARGEST) {
-                return RowAnswer::Refused(decoder::Refusal::Number(count));
-            }
-            put(row, count, n, r.second, r.third);
-            count += r.count;
-            if count > fibonacci::LONGEST {
-                return RowAnswer::Refused(decoder::Refusal::Count);
-            }
-            len = r.left;
-            val = r.val;
-        }
-    }
-    if !decoder::is_padding(len, val, state) {
-        return RowAnswer::Refused(decoder::Refusal::Rest);
-    }
-    RowAnswer::Row(count)
-}
 
 // The scan of an encoding: its checks, and how many numbers the row has. The row goes to a list of the caller's own.
-fn scan_into(s: &[u8], row: &mut [u32; ROOM]) -> RowAnswer
+fn scan_into(s: &[u8], row: &mut [u32; table_scan::ROOM]) -> table_scan::RowAnswer
     requires { ⌜ length (now row) ≡ 4098 ⌝ }
     ensures { λ r. ⌜ (rowOutcome r ≡ andThen (decode 3 (now (s .entry))) (λ row. accepted (length row))) × Begins (decode 3 (now (s .entry))) (now (row .exit)) × (length (now (row .exit)) ≡ 4098) ⌝ }
 {
     if s.len() > fibonacci::MOST_BYTES {
-        return RowAnswer::Refused(decoder::Refusal::Bytes);
+        return table_scan::RowAnswer::Refused(reading::Refusal::Bytes);
     }
     let heads = byte_table::heads();
     let tails = byte_table::tails();
     let positions = byte_table::positions();
     let firsts = fibonacci::first_numbers(3);
-    walk(&heads, &tails, &positions, &firsts, s, row)
+    table_scan::walk(&heads, &tails, &positions, &firsts, s, row)
 }
 
 // Reads an encoding of order 3. The row goes to a list of its own first, as a refusal must leave the output as it was.
-pub fn read(s: &[u8], out: &mut [u32]) -> decoder::ReadAnswer
+pub fn read(s: &[u8], out: &mut [u32]) -> reading::ReadAnswer
     ensures { λ r. ⌜ ReadPromise 3 (now (s .entry)) (now (out .entry)) r (now (out .exit)) ⌝ }
 {
-    let mut row: [u32; ROOM] = [0; ROOM];
+    let mut row: [u32; table_scan::ROOM] = [0; table_scan::ROOM];
     let scanned = scan_into(s, &mut row);
     match scanned {
-        RowAnswer::Row(count) => {
+        table_scan::RowAnswer::Row(count) => {
             if out.len() < count {
-                return decoder::ReadAnswer::Room;
+                return reading::ReadAnswer::Room;
             }
             lists::copy(out, &row, count);
-            decoder::ReadAnswer::Row(count)
+            reading::ReadAnswer::Row(count)
         }
-        RowAnswer::Refused(r) => decoder::ReadAnswer::Refused(r),
+        table_scan::RowAnswer::Refused(r) => reading::ReadAnswer::Refused(r),
     }
 }
 
@@ -141,19 +65,19 @@ fn put_row(out: &mut [u8], row: &[u32], n: usize)
 }
 
 // Reads an encoding of order 3 for a host that takes each number as four bytes, the lowest first.
-pub fn read_bytes(s: &[u8], out: &mut [u8]) -> decoder::ReadAnswer
+pub fn read_bytes(s: &[u8], out: &mut [u8]) -> reading::ReadAnswer
     ensures { λ r. ⌜ (readOutcome r ≡ readBytes (now (s .entry)) (length (now (out .entry)))) × (now (out .exit) ≡ readBytesInto (now (s .entry)) (now (out .entry))) ⌝ }
 {
-    let mut row: [u32; ROOM] = [0; ROOM];
+    let mut row: [u32; table_scan::ROOM] = [0; table_scan::ROOM];
     let scanned = scan_into(s, &mut row);
     match scanned {
-        RowAnswer::Row(count) => {
+        table_scan::RowAnswer::Row(count) => {
             if out.len() < 4 * count {
-                return decoder::ReadAnswer::Room;
+                return reading::ReadAnswer::Room;
             }
             put_row(out, &row, count);
-            decoder::ReadAnswer::Row(count)
+            reading::ReadAnswer::Row(count)
         }
-        RowAnswer::Refused(r) => decoder::ReadAnswer::Refused(r),
+        table_scan::RowAnswer::Refused(r) => reading::ReadAnswer::Refused(r),
     }
 }

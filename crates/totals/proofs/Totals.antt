@@ -9,8 +9,8 @@ use borrow.Author.Tests.{le-leb, lt-leb, lt-ltb, le-ltb}
 use Rattle.fibonacci.specs.Code.{sum}
 use Rattle.fibonacci.specs.Calls.{accepted, refused, largest, longest}
 use Rattle.fibonacci.proofs.Sums.{slice-most}
-use Rattle.decoder.specs.Reading.{decode}
-use Rattle.decoder.proofs.Decoding.{decode-is}
+use Rattle.reading.specs.Reading.{decode}
+use Rattle.reading.proofs.Decoding.{decode-is}
 use Rattle.totals.specs.Totals.{total, repeatedTotal}
 
 -- ## The total of a span

@@ -7,8 +7,8 @@ use lib.ListN.{length}
 use lib.Seq.{slice}
 use Rattle.fibonacci.specs.Code.{sum}
 use Rattle.fibonacci.specs.Calls.{Outcome, accepted, refused, check, andThen, within}
-use Rattle.decoder.specs.Reading.{decode}
-use Rattle.decoder.specs.Answers.{refusal}
+use Rattle.reading.specs.Reading.{decode}
+use Rattle.reading.specs.Answers.{refusal}
 use Rattle.totals.specs.declared.TotalAnswer.{TotalAnswer}
 use Rattle.totals.specs.declared.TotalAnswer.the-variants as answer
 use Rattle.totals.specs.declared.RepeatedTotalAnswer.{RepeatedTotalAnswer}

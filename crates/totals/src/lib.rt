@@ -5,14 +5,14 @@ ghost use Rattle.totals.specs.Totals.{total, repeatedTotal, totalOutcome
 // The refusals' numbers are paper 01's.
 pub enum TotalAnswer {
     Sum(u64),
-    Refused(decoder::Refusal),
+    Refused(reading::Refusal),
     // 8: the span is not one of the row's.
     Span,
 }
 
 pub enum RepeatedTotalAnswer {
     Sum(u64),
-    Refused(decoder::Refusal),
+    Refused(reading::Refusal),
     // 14: the repeats are not 1 to 10,000.
     Repeats,
 }
@@ -23,7 +23,7 @@ pub fn total(order: usize, s: &[u8], a: usize, b: usize) -> TotalAnswer
 {
     let scanned = decoder::scan(order, s, a, b);
     match scanned {
-        decoder::ScanAnswer::Row(f) => {
+        bit_decoder::ScanAnswer::Row(f) => {
             if a > b {
                 return TotalAnswer::Span;
             }
@@ -32,7 +32,7 @@ pub fn total(order: usize, s: &[u8], a: usize, b: usize) -> TotalAnswer
             }
             TotalAnswer::Sum(f.total)
         }
-        decoder::ScanAnswer::Refused(r) => TotalAnswer::Refused(r),
+        bit_decoder::ScanAnswer::Refused(r) => TotalAnswer::Refused(r),
     }
 }
 
@@ -42,7 +42,7 @@ pub fn repeated_total(order: usize, s: &[u8], repeats: u64) -> RepeatedTotalAnsw
 {
     let scanned = decoder::scan(order, s, 0, fibonacci::LONGEST);
     match scanned {
-        decoder::ScanAnswer::Row(f) => {
+        bit_decoder::ScanAnswer::Row(f) => {
             if repeats == 0 {
                 return RepeatedTotalAnswer::Repeats;
             }
@@ -51,6 +51,6 @@ pub fn repeated_total(order: usize, s: &[u8], repeats: u64) -> RepeatedTotalAnsw
             }
             RepeatedTotalAnswer::Sum(repeats * f.total)
         }
-        decoder::ScanAnswer::Refused(r) => RepeatedTotalAnswer::Refused(r),
+        bit_decoder::ScanAnswer::Refused(r) => RepeatedTotalAnswer::Refused(r),
     }
 }

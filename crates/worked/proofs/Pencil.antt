@@ -5,7 +5,7 @@ use Rattle.bits.specs.Bits.{bitOf, wordBits, unpack, wordOf, bytesOf, pack, cou
 use Rattle.fibonacci.specs.Code.{past, F, value, first, number, size, digits, codeword}
 use Rattle.fibonacci.specs.Encoding.{rowBits, encoding, parseAfter, parse, numbers}
 use Rattle.fibonacci.specs.Calls.{isOrder, isNumber, checkEach}
-use Rattle.decoder.specs.Reading.{checkFinished, contents, decode, read, readInto}
+use Rattle.reading.specs.Reading.{checkFinished, contents, decode, read, readInto}
 use Rattle.totals.specs.Totals.{total}
 use Rattle.encoder.specs.Writing.{write, writeInto}
 use Rattle.wavelet.specs.Nodes.{those, begins, goesOn, prune, tree, nodes, visits}

@@ -16,9 +16,9 @@ use Rattle.fibonacci.specs.Tables.{Order}
 use Rattle.fibonacci.specs.Calls.{accepted, refused, isOrder, isNumber, Legal, largest, longest, checkEach}
 use Rattle.fibonacci.proofs.Checks.{is-order, positive}
 use Rattle.fibonacci.proofs.Rows.{encoding-read}
-use Rattle.decoder.specs.Reading.{checkFinished, contents, decode, read, readInto}
-use Rattle.decoder.proofs.Checking.{contents-many}
-use Rattle.decoder.proofs.Decoding.{decode-contents}
+use Rattle.reading.specs.Reading.{checkFinished, contents, decode, read, readInto}
+use Rattle.reading.proofs.Checking.{contents-many}
+use Rattle.reading.proofs.Decoding.{decode-contents}
 use Rattle.encoder.specs.Writing.{write}
 use Rattle.encoder.proofs.Writing.{write-accepts}
 use Rattle.appender.specs.Appending.{append}

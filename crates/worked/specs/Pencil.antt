@@ -7,7 +7,7 @@ use lib.ListN.{length, take, replicate}
 use Rattle.bits.specs.Bits.{worth}
 use Rattle.fibonacci.specs.Code.{value, first, number, codeword}
 use Rattle.fibonacci.specs.Calls.{Outcome, accepted, refused, andThen}
-use Rattle.decoder.specs.Reading.{read, readInto}
+use Rattle.reading.specs.Reading.{read, readInto}
 use Rattle.totals.specs.Totals.{total}
 use Rattle.encoder.specs.Writing.{write, writeInto}
 use Rattle.wavelet.specs.Bitmaps.{bitmaps}

@@ -7,7 +7,7 @@ use Rattle.fibonacci.specs.Code.{valuesFrom}
 use Rattle.fibonacci.specs.Encoding.{encoding}
 use Rattle.fibonacci.specs.Tables.{Order}
 use Rattle.fibonacci.specs.Calls.{accepted, refused, largest, longest}
-use Rattle.decoder.specs.Reading.{read}
+use Rattle.reading.specs.Reading.{read}
 use Rattle.encoder.specs.Writing.{write}
 use Rattle.appender.specs.Appending.{append}
 use Rattle.worked.specs.Pencil.{answer, Read}

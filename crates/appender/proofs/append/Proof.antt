@@ -9,10 +9,12 @@ use lib.ListN.{length, take}
 use borrow.Author.Tests.{not-true, not-false}
 use Rattle.fibonacci.specs.Calls.{accepted, isOrder, isNumber, largest}
 use Rattle.fibonacci.proofs.Checks.{order-is, number-is}
-use Rattle.decoder.specs.declared.Found.{Found}
-use Rattle.decoder.specs.Reading.{decode}
-use Rattle.decoder.specs.Answers.{refusal, found}
-use Rattle.decoder.proofs.Decoding.{scan-row, scan-refused, decode-is}
+use Rattle.bit_decoder.specs.declared.Found.{Found}
+use Rattle.reading.specs.Reading.{decode}
+use Rattle.reading.specs.Answers.{refusal}
+use Rattle.bit_decoder.specs.Scan.{found}
+use Rattle.reading.proofs.Decoding.{decode-is}
+use Rattle.bit_decoder.proofs.Answering.{scan-row, scan-refused}
 use Rattle.appender.proofs.Appending.{append-order, append-past, Given, given-read, append-unread, append-number, append-full, append-bits, append-none, append-some}
 use borrow.Author.Needs.{needs}
 use Rattle.appender.proofs.append.Statement.{statement}

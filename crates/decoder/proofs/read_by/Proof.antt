@@ -4,10 +4,13 @@ use Prim.Native.Nat.{ℕ, _≤_}
 use native.Mathlib.Omega.{arith}
 use lib.ListN.{length, take, drop}
 use Rattle.fibonacci.specs.Calls.{accepted}
-use Rattle.decoder.specs.declared.Found.{Found}
-use Rattle.decoder.specs.Reading.{decode}
-use Rattle.decoder.specs.Answers.{refusal, found}
-use Rattle.decoder.proofs.Decoding.{decode-is, decode-few, stored-row, scan-row, scan-refused, read-row, read-room, read-refused}
+use Rattle.bit_decoder.specs.declared.Found.{Found}
+use Rattle.reading.specs.Reading.{decode}
+use Rattle.bit_decoder.specs.Scan.{found}
+use Rattle.reading.specs.Answers.{refusal}
+use Rattle.reading.proofs.Decoding.{decode-is, read-row, read-room, read-refused}
+use Rattle.bit_decoder.proofs.Answering.{scan-row, scan-refused}
+use Rattle.decoder.proofs.Decoding.{decode-few, stored-row}
 use borrow.Author.Needs.{needs}
 use Rattle.decoder.proofs.read_by.Statement.{statement}
 use Rattle.decoder.proofs.read_by.Tie as tie

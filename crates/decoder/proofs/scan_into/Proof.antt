@@ -2,10 +2,19 @@ use mathlib.Core.Path.{refl, sym, _∙_}
 use native.Mathlib.Omega.{arith}
 use borrow.Author.Needs.{needs}
 use borrow.Author.Tests.{not-true, not-false}
+use Rattle.bits.specs.Bits.{unpack}
+use Rattle.fibonacci.specs.Tables.{Order}
+use Rattle.fibonacci.specs.Calls.{largest}
 use Rattle.fibonacci.proofs.Checks.{order-is}
-use Rattle.decoder.proofs.Decoding.{decode-order, decode-long, decode-contents}
+use Rattle.reading.specs.Reading.{contents}
+use Rattle.reading.proofs.Decoding.{decode-order, decode-long, decode-contents}
+use Rattle.decoder.proofs.Decoding.{kept-stored}
 use Rattle.decoder.proofs.scan_into.Statement.{statement}
 use Rattle.decoder.proofs.scan_into.Tie as tie
+
+-- the order has passed its check
+ordered : (c : tie.Else2) → Order (c .before .before .before .before .before .args .order)
+ordered c = order-is _ (sym (c .before .before .is-order .ensures) ∙ not-false _ (c .before .if1 .left))
 
 is-order-requires : tie.Need-is-order-requires
 is-order-requires c κs = search needs
@@ -18,21 +27,35 @@ returns-2 c =
     rw (decode-long _ (c .before .before .before .before .before .args .s .now) (sym (c .before .before .is-order .ensures) ∙ not-false _ (c .before .if1 .left)) (omega arith)) (refl, λ z h. tt)
 
 first-numbers-requires : tie.Need-first-numbers-requires
-first-numbers-requires c κs = order-is _ (sym (c .before .before .is-order .ensures) ∙ not-false _ (c .before .if1 .left))
+first-numbers-requires c κs = ordered c
 
-walk-requires : tie.Need-walk-requires
-walk-requires c κs =
-    let e = c .before .before .before in
-    (order-is _ (sym (e .before .before .is-order .ensures) ∙ not-false _ (e .before .if1 .left)), c .before .before .first-numbers .ensures, e .if2 .left, omega arith, e .before .before .before .before .before .pre)
+take-words-requires : tie.Need-take-words-requires
+take-words-requires c κs =
+    let f = c .before .before in
+    (ordered (f .before), f .first-numbers .ensures, f .before .if2 .left, omega arith)
+
+walk-bits-requires : tie.Need-walk-bits-requires
+walk-bits-requires c κs =
+    let t = c .before .before .before .before in
+    let f = t .before .before .before in
+    let e = f .before in
+    (ordered e, f .first-numbers .ensures, omega (arith, e .if2 .left), omega arith, search needs, t .take-words .ensures .0)
 
 same-length : tie.Need-same-length
 same-length c = search needs
 
 returns-3 : tie.Need-returns-3
 returns-3 c =
-    let w = c .before .before in
-    let e = w .before .before .before .before in
-    rw (decode-contents _ (e .before .before .before .before .before .args .s .now) (sym (e .before .before .is-order .ensures) ∙ not-false _ (e .before .if1 .left)) (omega arith)) (w .walk .ensures)
+    let b = c .before .before in
+    let t = b .before .before .before .before .before in
+    let e = t .before .before .before .before in
+    let a = e .before .before .before .before .before .args in
+    rw (decode-contents _ (a .s .now) (sym (e .before .before .is-order .ensures) ∙ not-false _ (e .before .if1 .left)) (omega arith)) (
+      b .walk-bits .ensures .0,
+      λ z h.
+          kept-stored (a .order) (unpack (a .s .now)) (t .take-words .result .count) (contents largest (a .order) (unpack (a .s .now))) (a .row .now) _ _
+          (b .walk-bits .ensures .1) (t .take-words .ensures .1 z h),
+    )
 
 pub scan-into-spec : {M : Type 1} → statement M
 scan-into-spec =
@@ -42,6 +65,7 @@ scan-into-spec =
     returns
     returns-2
     first-numbers-requires
-    walk-requires
+    take-words-requires
+    walk-bits-requires
     same-length
     returns-3)

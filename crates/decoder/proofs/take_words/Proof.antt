@@ -10,7 +10,7 @@ use borrow.Author.Tests.{leb-false}
 use Rattle.bits.specs.Bits.{unpack}
 use Rattle.fibonacci.specs.Code.{sum}
 use Rattle.word_decoder.proofs.Taking.{taken-none}
-use Rattle.decoder.proofs.Scanning.{begun-numbers}
+use Rattle.bit_decoder.proofs.Scanning.{begun-numbers}
 use Rattle.decoder.proofs.take_words.Statement.{statement}
 use Rattle.decoder.proofs.take_words.Tie as tie
 

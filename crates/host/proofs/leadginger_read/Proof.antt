@@ -2,7 +2,7 @@ use mathlib.Core.Path.{sym, ap, _∙_, subst}
 use Prim.Native.Nat.{_≤_}
 use native.Mathlib.Omega.{arith}
 use Rattle.fibonacci.specs.Calls.{longest}
-use Rattle.decoder.specs.Answers.{readOutcome}
+use Rattle.reading.specs.Answers.{readOutcome}
 use Rattle.host.specs.Host.{hostNumber}
 use Rattle.host.proofs.Fitting.{Fits, bytes-fit}
 use borrow.Author.Needs.{needs}

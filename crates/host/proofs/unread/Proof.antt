@@ -2,8 +2,8 @@ use mathlib.Core.Path.{refl, subst}
 use Prim.Native.Nat.{_≤_}
 use native.Mathlib.Omega.{arith}
 use Rattle.fibonacci.specs.Calls.{longest}
-use Rattle.decoder.specs.declared.Refusal.{Refusal}
-use Rattle.decoder.specs.Answers.{reason}
+use Rattle.reading.specs.declared.Refusal.{Refusal}
+use Rattle.reading.specs.Answers.{reason}
 use borrow.Author.Needs.{needs}
 use Rattle.host.proofs.unread.Statement.{statement}
 use Rattle.host.proofs.unread.Tie as tie

@@ -3,7 +3,7 @@ use mathlib.Core.Bool.{true}
 use native.Mathlib.Omega.{arith}
 use borrow.Author.Needs.{needs}
 use Rattle.fibonacci.specs.Calls.{isOrder}
-use Rattle.decoder.proofs.Decoding.{decode-long, decode-contents}
+use Rattle.reading.proofs.Decoding.{decode-long, decode-contents}
 use Rattle.table_decoder.proofs.scan_into.Statement.{statement}
 use Rattle.table_decoder.proofs.scan_into.Tie as tie
 

@@ -4,10 +4,11 @@ use Prim.Native.Nat.{ℕ, _*_, _≤_}
 use native.Mathlib.Omega.{arith}
 use native.Mathlib.Nat.{mul-le-mul}
 use Rattle.fibonacci.specs.Calls.{accepted, longest}
-use Rattle.decoder.specs.declared.Found.{Found}
-use Rattle.decoder.specs.Reading.{decode}
-use Rattle.decoder.specs.Answers.{refusal, found}
-use Rattle.decoder.proofs.Decoding.{scan-row, scan-refused}
+use Rattle.bit_decoder.specs.declared.Found.{Found}
+use Rattle.reading.specs.Reading.{decode}
+use Rattle.reading.specs.Answers.{refusal}
+use Rattle.bit_decoder.specs.Scan.{found}
+use Rattle.bit_decoder.proofs.Answering.{scan-row, scan-refused}
 use Rattle.totals.proofs.Totals.{span-most, repeated-sum, repeated-none, repeated-more, repeated-refused}
 use borrow.Author.Needs.{needs}
 use Rattle.totals.proofs.repeated_total.Statement.{statement}

@@ -3,10 +3,11 @@ use mathlib.Core.List.{List}
 use Prim.Native.Nat.{ℕ}
 use native.Mathlib.Omega.{arith}
 use Rattle.fibonacci.specs.Calls.{accepted}
-use Rattle.decoder.specs.declared.Found.{Found}
-use Rattle.decoder.specs.Reading.{decode}
-use Rattle.decoder.specs.Answers.{refusal, found}
-use Rattle.decoder.proofs.Decoding.{scan-row, scan-refused}
+use Rattle.bit_decoder.specs.declared.Found.{Found}
+use Rattle.reading.specs.Reading.{decode}
+use Rattle.reading.specs.Answers.{refusal}
+use Rattle.bit_decoder.specs.Scan.{found}
+use Rattle.bit_decoder.proofs.Answering.{scan-row, scan-refused}
 use Rattle.totals.proofs.Totals.{total-sum, total-turned, total-past, total-refused}
 use borrow.Author.Needs.{needs}
 use Rattle.totals.proofs.total.Statement.{statement}

@@ -1,0 +1,275 @@
+-- What a loop over the bytes of an encoding keeps, and where each of its steps leads.
+use mathlib.Core.Path.{_≡_, refl, sym, ap, ap₂, _∙_, subst}
+use mathlib.Core.Bool.{Bool, true, false, _&&_}
+use mathlib.Core.List.{List, [], _∷_, _++_, append-assoc, map, map-append}
+use Prim.Native.Nat.{ℕ, zero, suc, _+_, _*_, _^_, _≤_, _<_}
+use native.Mathlib.Omega.{arith}
+use native.Mathlib.Decide.{decLe}
+use lib.Dec.{ltb, eqb}
+use borrow.Author.Tests.{ne-eqb}
+use lib.ListN.{length, getD, take, length-append, length-map}
+use lib.Seq.{sets, length-sets}
+use Rattle.bits.specs.Bits.{wordBits, unpack}
+use Rattle.bits.proofs.Bytes.{unpack-length}
+use Rattle.fibonacci.specs.Code.{ones, first, number}
+use Rattle.fibonacci.specs.Encoding.{Parse, parsed, rest, IsParse, parse, numbers}
+use Rattle.fibonacci.specs.Calls.{accepted, refused, isNumber, Legal, largest, longest}
+use Rattle.fibonacci.proofs.Parse.{parse-is}
+use Rattle.byte_table.specs.declared.Row.{Row}
+use Rattle.byte_table.specs.Table.{stem, trail, after, front, inside, byF, byF1, byF2, moved, rowOf, rowAt, Small}
+use Rattle.reading.specs.Reading.{contents}
+use Rattle.reading.proofs.Reached.{Reached, reached-start, reached-open, reached-shut, reached-numbers, reached-end}
+use Rattle.fibonacci.proofs.Each.{all-append}
+use Rattle.reading.proofs.Checking.{Padding, padding-is, padding-not, contents-many, contents-large, contents-past, contents-rest, contents-good, Numbered, numbered-legal, numbered-large}
+use Rattle.table_scan.proofs.Inside.{few-are, first-three, few-legal, taken, coded-positive, open-parse, shut-parse}
+use Rattle.table_scan.proofs.Stepping.{stem-settled, stem-trail, trail-few, front-ones, row-after, bits-next, Pending, pending-none, pending-left, pending-more, pending-held, pending-near, pending-far}
+
+-- ## What the loop keeps
+
+state-zero : (run : ℕ) {state : ℕ} → state ≡ 256 * run → eqb state 0 ≡ eqb run 0
+state-zero zero {state} e = ap (λ (n : ℕ). eqb n 0) e
+state-zero (suc run) {state} e = ne-eqb state 0 (λ z. omega arith) ∙ sym (ne-eqb (suc run) 0 (λ z. omega arith))
+
+-- After i bytes: the numbers that ended are legal and stored, and what is pending is known by its length and value and by its ones, 256 for each
+pub record Walked (s : List ℕ) (i : ℕ) (row : List ℕ) (count len val state : ℕ) : Type 0 where
+  pub words : List (List Bool)
+  pub stem : List Bool
+  pub run : ℕ
+  pub reached : Reached 3 (unpack s) (8 * i) words stem run
+  pub many : length words ≡ count
+  pub most : count ≤ longest
+  pub legal : Legal largest (map (number 3) words)
+  pub stored : take count row ≡ map (number 3) words
+  pub room : length row ≡ 4098
+  pub pending : Pending stem len val
+  pub held : len ≤ 37
+  pub small : val ≤ 2 ^ 43 * i
+  pub at : state ≡ 256 * run
+
+pub walked-start : (s row : List ℕ) → length row ≡ 4098 → Walked s 0 row 0 0 0 0
+walked-start s row h =
+    record {
+      words = [];
+      stem = [];
+      run = 0;
+      reached = reached-start 3 (unpack s) (omega arith);
+      many = refl;
+      most = omega arith;
+      legal = tt;
+      stored = refl;
+      room = h;
+      pending = pending-none;
+      held = omega arith;
+      small = omega arith;
+      at = refl;
+    }
+
+module _ {s : List ℕ} {i : ℕ} {row : List ℕ} {count len val state : ℕ} (k : Walked s i row count len val state) where
+  abbrev done : List ℕ
+  done = map (number 3) (k .words)
+
+  done-long : length done ≡ count
+  done-long = length-map (k .words) (number 3) ∙ k .many
+
+  pub walked-state : state ≤ 512
+  walked-state = omega (arith, k .at, k .reached .few)
+
+  -- a step: the byte, its row r, and what the row's bits are worth after those that are pending
+  module _ (h : i < length s) (byte : getD s i 0 < 256) (r : Row) (row-is : r ≡ rowAt (state + getD s i 0)) (few : Small r)
+      (v : ℕ) (worth : v ≡ moved len (r .x) (r .y) (r .z)) where
+    x : List Bool
+    x = wordBits 8 (getD s i 0)
+
+    p : Parse
+    p = after (k .run) (getD s i 0)
+
+    p-is : p ≡ parse 3 (ones (k .run) ++ x)
+    unfolding p x after
+    p-is = refl
+
+    row-of : r ≡ rowOf p
+    unfolding p
+    row-of = row-is ∙ ap (λ (m : ℕ). rowAt (m + getD s i 0)) (k .at) ∙ row-after (k .run) (getD s i 0) byte
+
+    -- the pending bits with the row's
+    grown : (q : List Bool) → r .len ≡ length q → r .x ≡ byF q → r .y ≡ byF1 q + byF2 q → r .z ≡ byF1 q → Pending (k .stem ++ q) (len + r .len) (val + v)
+    grown q l a b c = rw (worth, l, a, b, c) (pending-more (k .stem) len val q (k .pending))
+
+    -- no codeword ends
+    pub walked-open : r .count ≡ 0 → (len' : ℕ) → (len + r .len < 37 → len' ≡ len + r .len) → (37 ≤ len + r .len → len' ≡ 37) → v < 2 ^ 43
+        → Walked s (i + 1) row count len' (val + v) (r .next)
+    unfolding rowOf front
+    walked-open none len' short long low =
+        let e : p ≡ parsed [] (rest p) = open-parse p (sym (ap (λ (r : Row). r .count) row-of) ∙ none) in
+        let f : r ≡ rowOf (parsed [] (rest p)) = row-of ∙ ap rowOf e in
+        let q : List Bool = stem (rest p) in
+        record {
+          words = k .words;
+          stem = k .stem ++ q;
+          run = trail (rest p);
+          reached =
+              reached-open (k .reached) x (8 * (i + 1)) (unfold x in bits-next s i h) q (trail (rest p)) (stem-settled (rest p)) (trail-few _ (rest p) [] (sym p-is ∙ e))
+              (sym p-is ∙ e ∙ ap (parsed []) (stem-trail (rest p)));
+          many = k .many;
+          most = k .most;
+          legal = k .legal;
+          stored = k .stored;
+          room = k .room;
+          pending =
+              pending-held _ (len + r .len) len' _
+              (grown q (ap (λ (r : Row). r .len) f) (ap (λ (r : Row). r .x) f) (ap (λ (r : Row). r .y) f) (ap (λ (r : Row). r .z) f)) short long;
+          held = elim (decLe 37 (len + r .len)) [ yes l ↦ omega (arith, long l) | no l ↦ omega (arith, short (omega arith)) ];
+          small = omega (arith, k .small);
+          at = ap (λ (r : Row). r .next) f;
+        }
+
+    -- a codeword ends
+    module _ (some : r .count ≡ 0 → ⊥) where
+      cut : (w : List Bool) × (ws : List (List Bool)) × (p ≡ parsed (w ∷ ws) (rest p))
+      cut = shut-parse p (λ e. some (ap (λ (r : Row). r .count) row-of ∙ (unfold rowOf in e)))
+
+      abbrev q : List Bool
+      q = front (parsed (cut .0 ∷ cut .1) (rest p))
+
+      abbrev ended : List Bool
+      ended = k .stem ++ cut .0
+
+      -- the numbers of the codewords inside the byte
+      abbrev within : List ℕ
+      within = map (number 3) (cut .1)
+
+      row-cut : r ≡ rowOf (parsed (cut .0 ∷ cut .1) (rest p))
+      row-cut = row-of ∙ ap rowOf (cut .2)
+
+      parse-cut : parse 3 (ones (k .run) ++ x) ≡ parsed (cut .0 ∷ cut .1) (rest p)
+      parse-cut = sym p-is ∙ cut .2
+
+      is-cut : IsParse 3 (ones (k .run) ++ x) (parsed (cut .0 ∷ cut .1) (rest p))
+      is-cut = subst (IsParse 3 (ones (k .run) ++ x)) parse-cut (parse-is 3 (ones (k .run) ++ x) (omega arith))
+
+      reached-next : Reached 3 (unpack s) (8 * (i + 1)) (k .words ++ (ended ∷ cut .1)) (stem (rest p)) (trail (rest p))
+      reached-next =
+          reached-shut (k .reached) x (8 * (i + 1)) (unfold x in bits-next s i h) (stem (rest p)) (trail (rest p)) (stem-settled (rest p)) (trail-few _ (rest p) _ parse-cut)
+          (cut .0) (cut .1) (parse-cut ∙ ap (parsed (cut .0 ∷ cut .1)) (stem-trail (rest p)))
+
+      ended-is : ended ≡ (k .stem ++ q) ++ ones 3
+      ended-is = ap (λ (w : List Bool). k .stem ++ w) (front-ones _ (cut .0) (rest p) (cut .1) parse-cut) ∙ sym (append-assoc (k .stem) q (ones 3))
+
+      pending-ended : Pending (k .stem ++ q) (len + r .len) (val + v)
+      unfolding rowOf
+      pending-ended = grown q (ap (λ (r : Row). r .len) row-cut) (ap (λ (r : Row). r .x) row-cut) (ap (λ (r : Row). r .y) row-cut) (ap (λ (r : Row). r .z) row-cut)
+
+      ended-near : first 3 (len + r .len) ≤ largest → number 3 ended ≡ first 3 (len + r .len) + (val + v)
+      ended-near g = ap (number 3) ended-is ∙ pending-near _ _ _ pending-ended g
+
+      ended-far : largest < first 3 (len + r .len) → largest < number 3 ended
+      ended-far g = rw ended-is (pending-far _ _ _ pending-ended g)
+
+      count-is : r .count ≡ suc (length within)
+      unfolding rowOf
+      count-is = ap (λ (r : Row). r .count) row-cut ∙ ap suc (sym (length-map (cut .1) (number 3)))
+
+      within-few : length within ≤ 2
+      within-few = omega (arith, count-is, few .0)
+
+      second-is : r .second ≡ getD within 0 0
+      unfolding rowOf inside
+      second-is = ap (λ (r : Row). r .second) row-cut
+
+      third-is : r .third ≡ getD within 1 0
+      unfolding rowOf inside
+      third-is = ap (λ (r : Row). r .third) row-cut
+
+      within-legal : Legal largest within
+      within-legal = few-legal within within-few (coded-positive (cut .1) (is-cut .coded .1)) (omega (arith, second-is, few .5)) (omega (arith, third-is, few .6))
+
+      next-numbers : map (number 3) (k .words ++ (ended ∷ cut .1)) ≡ done ++ (number 3 ended ∷ within)
+      next-numbers = map-append (number 3) (k .words) (ended ∷ cut .1)
+
+      all-numbers : (later : List ℕ) × (numbers 3 (unpack s) ≡ (done ++ (number 3 ended ∷ within)) ++ later)
+      all-numbers = let t = reached-numbers reached-next in (t .0, t .1 ∙ ap (λ (l : List ℕ). l ++ t .0) next-numbers)
+
+      -- they go on with the number of that codeword
+      go-on : numbers 3 (unpack s) ≡ done ++ (number 3 ended ∷ (within ++ all-numbers .0))
+      go-on = all-numbers .1 ∙ append-assoc done (number 3 ended ∷ within) (all-numbers .0)
+
+      pub walked-many : count ≡ longest → contents largest 3 (unpack s) ≡ refused 4 0
+      walked-many c = contents-many largest 3 (unpack s) done (k .legal) (number 3 ended) _ go-on (done-long ∙ c)
+
+      -- n was found for its number
+      module _ (n : ℕ) (is : Numbered 3 (len + r .len) (val + v) n) where
+        pub walked-large : (count ≡ longest → ⊥) → isNumber largest n ≡ false → contents largest 3 (unpack s) ≡ refused 7 count
+        walked-large less l =
+            contents-large largest 3 (unpack s) done (k .legal) (number 3 ended) _ go-on (omega (arith, done-long, k .most))
+            (numbered-large 3 _ _ n is (number 3 ended) ended-near ended-far largest (omega arith) l) ∙ ap (refused 7) done-long
+
+        module _ (good : isNumber largest n ≡ true) where
+          n-is : n ≡ number 3 ended
+          n-is = numbered-legal 3 _ _ n is (number 3 ended) ended-near ended-far largest (omega arith) good
+
+          next-legal : Legal largest (done ++ (number 3 ended ∷ within))
+          next-legal = all-append (λ n. isNumber largest n ≡ true) done (number 3 ended ∷ within) (k .legal) (rw (← n-is) good, within-legal)
+
+          next-long : length (done ++ (number 3 ended ∷ within)) ≡ count + r .count
+          next-long = omega (arith, length-append done (number 3 ended ∷ within), done-long, count-is)
+
+          -- those inside the byte are too many
+          pub walked-past : longest < count + r .count → contents largest 3 (unpack s) ≡ refused 4 0
+          walked-past f = contents-past largest 3 (unpack s) (done ++ (number 3 ended ∷ within)) next-legal (all-numbers .0) (all-numbers .1) (omega (arith, next-long))
+
+          abbrev kept : List ℕ
+          kept = sets row count (n ∷ r .second ∷ r .third ∷ [])
+
+          kept-long : length kept ≡ 4098
+          kept-long = length-sets row count (n ∷ r .second ∷ r .third ∷ []) ∙ k .room
+
+          kept-is : (count ≡ longest → ⊥) → take (count + r .count) kept ≡ done ++ (number 3 ended ∷ within)
+          kept-is less =
+              taken row (n ∷ r .second ∷ r .third ∷ []) count (r .count) (omega (arith, k .room, k .most)) (few .0)
+              ∙ ap₂ _++_ (k .stored) (ap (λ (c : ℕ). take c (n ∷ r .second ∷ r .third ∷ [])) count-is
+              ∙ first-three n-is second-is third-is (length within) ∙ ap (λ (l : List ℕ). number 3 ended ∷ l) (few-are within within-few))
+
+          pub walked-shut : (count ≡ longest → ⊥) → count + r .count ≤ longest
+              → Walked s (i + 1) (sets row count (n ∷ r .second ∷ r .third ∷ [])) (count + r .count) (r .left) (r .val) (r .next)
+          unfolding rowOf
+          walked-shut less f =
+              record {
+                words = k .words ++ (ended ∷ cut .1);
+                stem = stem (rest p);
+                run = trail (rest p);
+                reached = reached-next;
+                many = sym (length-map (k .words ++ (ended ∷ cut .1)) (number 3)) ∙ ap length next-numbers ∙ next-long;
+                most = f;
+                legal = rw next-numbers next-legal;
+                stored = kept-is less ∙ sym next-numbers;
+                room = kept-long;
+                pending =
+                    subst (λ (l : ℕ). Pending (stem (rest p)) l (r .val)) (sym (ap (λ (r : Row). r .left) row-cut))
+                    (subst (λ (v : ℕ). Pending (stem (rest p)) (length (stem (rest p))) v) (sym (ap (λ (r : Row). r .val) row-cut))
+                    (pending-left (stem (rest p)) (omega (arith, ap (λ (r : Row). r .left) row-cut, few .7))));
+                held = omega (arith, few .7);
+                small = omega (arith, few .8);
+                at = ap (λ (r : Row). r .next) row-cut;
+              }
+
+  -- the bytes are all read, and the pending bits are the rest
+  module _ (h : length s ≤ i) where
+    rest-is : parse 3 (unpack s) ≡ parsed (k .words) (k .stem ++ ones (k .run))
+    rest-is = reached-end 3 (unpack s) (8 * i) (k .words) (k .stem) (k .run) (omega (arith, unpack-length s)) (k .reached)
+
+    far : 8 ≤ len → 8 ≤ length (k .stem)
+    far l = elim (decLe 37 len) [ yes f ↦ omega (arith, k .pending .far f) | no f ↦ omega (arith, k .pending .near (omega arith) .0) ]
+
+    -- there are no ones exactly where the state is 0
+    state-none : Padding len val state ≡ Padding len val (k .run)
+    state-none = ap (λ (t : Bool). ltb len 8 && (eqb val 0 && t)) (state-zero (k .run) (k .at))
+
+    pub walked-padding : Padding len val state ≡ true → (contents largest 3 (unpack s) ≡ accepted done) × (take count row ≡ done) × (length done ≡ count)
+    walked-padding e =
+        let t = padding-is 3 (k .stem) len val (k .run) (omega arith) (λ l. k .pending .near (omega arith)) far (sym state-none ∙ e) in
+        (contents-good largest 3 (unpack s) done (k .legal) (k .words) _ rest-is refl (omega (arith, done-long, k .most)) (t .0) (t .1), k .stored, done-long)
+
+    pub walked-rest : Padding len val state ≡ false → contents largest 3 (unpack s) ≡ refused 6 0
+    walked-rest e =
+        contents-rest largest 3 (unpack s) done (k .legal) (k .words) _ rest-is refl (omega (arith, done-long, k .most))
+        (padding-not 3 (k .stem) len val (k .run) (omega arith) (λ l. k .pending .near (omega arith)) far (sym state-none ∙ e))
