@@ -62,7 +62,7 @@ pub fn put_codeword(
     ensures { λ r. ⌜ (r ≡ length (codeword order n)) × (unpack (now (part .exit)) ≡ putAt o (codeword order n) (unpack (now (part .entry)))) ⌝ }
 {
     let w = coded(positions, firsts, low, order, n);
-    bits::put_word(part, o, w.bits, w.len);
+    bit_writer::put_word(part, o, w.bits, w.len);
     w.len
 }
 
@@ -101,9 +101,9 @@ fn put_row(
         let w = coded(positions, firsts, low, order, fibonacci::wide(row[i]));
         let k = at / 8;
         if k + 8 <= bytes {
-            bits::put_over(&mut out[k..], at % 8, w.bits, w.len);
+            bit_writer::put_over(&mut out[k..], at % 8, w.bits, w.len);
         } else {
-            bits::put_word(&mut out[k..], at % 8, w.bits, w.len);
+            bit_writer::put_word(&mut out[k..], at % 8, w.bits, w.len);
         }
         at += w.len;
     }

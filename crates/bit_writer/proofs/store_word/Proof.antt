@@ -2,9 +2,9 @@ use native.Mathlib.Omega.{arith}
 use native.Mathlib.Nat.{div-one}
 use lib.ListN.{length-set}
 use borrow.Author.Needs.{needs}
 use Rattle.bits.proofs.Put.{word-stored}
-use Rattle.bits.proofs.store_word.Statement.{statement}
-use Rattle.bits.proofs.store_word.Tie as tie
+use Rattle.bit_writer.proofs.store_word.Statement.{statement}
+use Rattle.bit_writer.proofs.store_word.Tie as tie
 
 cast-s : tie.Need-cast-s
 cast-s c = search needs

@@ -5,10 +5,10 @@ use native.Mathlib.Omega.{arith}
 use lib.ListN.{length, take, drop}
 use lib.Seq.{take-all}
 use borrow.Author.Needs.{needs}
 use Rattle.bits.proofs.Lists.{copy-more}
 use Rattle.bits.proofs.Put.{wordBytes, word-byte, word-length}
-use Rattle.bits.proofs.store.Statement.{statement}
-use Rattle.bits.proofs.store.Tie as tie
+use Rattle.bit_writer.proofs.store.Statement.{statement}
+use Rattle.bit_writer.proofs.store.Tie as tie
 
 -- the first i bytes are the word's
 abbrev Inv-loop : tie.InvT-loop

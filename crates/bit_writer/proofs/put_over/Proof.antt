@@ -1,8 +1,8 @@
 use borrow.Author.Needs.{needs}
 use Rattle.bits.specs.Bits.{wordBits}
 use Rattle.bits.proofs.Put.{put-stored}
-use Rattle.bits.proofs.put_over.Statement.{statement}
-use Rattle.bits.proofs.put_over.Tie as tie
+use Rattle.bit_writer.proofs.put_over.Statement.{statement}
+use Rattle.bit_writer.proofs.put_over.Tie as tie
 
 slice-read-joined : tie.Need-slice-read-joined
 slice-read-joined c = search needs

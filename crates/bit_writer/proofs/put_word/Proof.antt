@@ -1,9 +1,9 @@
 use borrow.Author.Needs.{needs}
 use Rattle.bits.specs.Bits.{wordBits, putAt}
 use Rattle.bits.proofs.Words.{words-length}
 use Rattle.bits.proofs.Put.{put-stored}
-use Rattle.bits.proofs.put_word.Statement.{statement}
-use Rattle.bits.proofs.put_word.Tie as tie
+use Rattle.bit_writer.proofs.put_word.Statement.{statement}
+use Rattle.bit_writer.proofs.put_word.Tie as tie
 
 add-n : tie.Need-add-n
 add-n c = search needs

@@ -1,7 +1,7 @@
 use borrow.Author.Needs.{needs}
 use Rattle.bits.proofs.Put.{joined-bits}
-use Rattle.bits.proofs.joined.Statement.{statement}
-use Rattle.bits.proofs.joined.Tie as tie
+use Rattle.bit_writer.proofs.joined.Statement.{statement}
+use Rattle.bit_writer.proofs.joined.Tie as tie
 
 wide-requires : tie.Need-wide-requires
 wide-requires c κs = search needs
