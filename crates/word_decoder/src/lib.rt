@@ -7,7 +7,7 @@ ghost use Rattle.bits.specs.Bits.{wordBits, unpack};
 ghost use Rattle.fibonacci.specs.Code.{value, first};
 ghost use Rattle.fibonacci.specs.Tables.{Order, tableRow};
 ghost use Rattle.fibonacci.specs.Calls.{largest, longest, mostBytes};
-ghost use Rattle.digit_values.specs.Values.{byteValues};
+ghost use Rattle.digit_tables.specs.Values.{byteValues};
 ghost use Rattle.word_decoder.specs.Words.{Summed, Spanned, Stored, Judged, starts, Ahead};
 
 // How far codewords were taken: up to which bit, how many, and the sum of those that were asked for.
@@ -166,7 +166,7 @@ pub fn take_span(
     ensures { λ r. ⌜ Spanned order limit from to (unpack (now (s .entry))) r ⌝ }
 {
     let mut values: [u32; 1536] = [0; 1536];
-    digit_values::fill(&mut values, order);
+    digit_tables::fill(&mut values, order);
     let mut bit: usize = 0;
     let mut count: usize = 0;
     let mut sum: u64 = 0;
@@ -191,7 +191,7 @@ pub fn take_row(firsts: &[u32; 47], order: usize, s: &[u8], limit: u64, row: &mu
     ensures { λ r. ⌜ Stored order limit (unpack (now (s .entry))) (now (row .entry)) (now (row .exit)) r × (r .sum ≡ 0) ⌝ }
 {
     let mut values: [u32; 1536] = [0; 1536];
-    digit_values::fill(&mut values, order);
+    digit_tables::fill(&mut values, order);
     let most = up_to(row.len());
     let mut bit: usize = 0;
     let mut count: usize = 0;
