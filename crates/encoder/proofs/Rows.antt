@@ -17,11 +17,6 @@ use Rattle.fibonacci.proofs.Rows.{bits-append}
 use Rattle.fibonacci.proofs.Checks.{number-is}
 use Rattle.codewords.proofs.Codewords.{stem-long}
 
-pub legal-at : (limit : ℕ) (row : List ℕ) (i : ℕ) → Legal limit row → i < length row → isNumber limit (getD row i 0) ≡ true
-legal-at limit [] i a h = absurd (omega arith)
-legal-at limit (n ∷ row) zero a h = a .0
-legal-at limit (n ∷ row) (suc i) a h = legal-at limit row i (a .1) (omega arith)
-
 -- a number more
 pub bits-snoc : (m : ℕ) (row : List ℕ) (n : ℕ) → rowBits m (row ++ (n ∷ [])) ≡ rowBits m row ++ codeword m n
 unfolding rowBits flatten

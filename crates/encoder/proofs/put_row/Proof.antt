@@ -9,8 +9,8 @@ use Rattle.bits.specs.Bits.{wordBits, unpack, byteCount, putTo, putAt}
 use Rattle.bits.proofs.Words.{words-length}
 use Rattle.bits.proofs.Put.{put-within, put-part}
 use Rattle.fibonacci.specs.Calls.{largest, longest}
-use Rattle.fibonacci.proofs.Checks.{number-is}
-use Rattle.encoder.proofs.Rows.{legal-at, bits-few, Put, put-none, put-room, put-next, put-end}
+use Rattle.fibonacci.proofs.Checks.{number-is, legal-at}
+use Rattle.encoder.proofs.Rows.{bits-few, Put, put-none, put-room, put-next, put-end}
 use Rattle.encoder.proofs.put_row.Statement.{statement}
 use Rattle.encoder.proofs.put_row.Tie as tie
 

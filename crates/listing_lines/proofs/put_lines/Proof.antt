@@ -5,11 +5,11 @@ use native.Mathlib.Omega.{arith}
 use lib.ListN.{length, length-append}
 use Rattle.columns.specs.Columns.{ascii, column}
 use Rattle.columns.proofs.Columns.{column-length, sets-then}
-use Rattle.listing_text.specs.Listing.{header, rowLines, lastLine, lines}
-use Rattle.listing_text.proofs.Printing.{rows-length}
+use Rattle.listing_lines.specs.Lines.{header, rowLines, lastLine, lines}
+use Rattle.listing_lines.proofs.Lines.{rows-length}
 use borrow.Author.Needs.{needs}
-use Rattle.listing_text.proofs.put_lines.Statement.{statement}
-use Rattle.listing_text.proofs.put_lines.Tie as tie
+use Rattle.listing_lines.proofs.put_lines.Statement.{statement}
+use Rattle.listing_lines.proofs.put_lines.Tie as tie
 
 slice-aggregate-put-text : tie.Need-slice-aggregate-put-text
 slice-aggregate-put-text c = search needs

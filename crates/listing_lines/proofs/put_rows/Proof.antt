@@ -6,12 +6,11 @@ use lib.Seq.{length-sets}
 use borrow.Author.Needs.{needs}
 use Rattle.fibonacci.specs.Code.{codeword}
 use Rattle.fibonacci.specs.Calls.{largest}
-use Rattle.fibonacci.proofs.Checks.{number-is}
+use Rattle.fibonacci.proofs.Checks.{number-is, legal-at}
 use Rattle.codewords.proofs.Codewords.{stem-long}
-use Rattle.encoder.proofs.Rows.{legal-at}
-use Rattle.listing_text.proofs.Printing.{Listed, listed-none, listed-more, listed-end}
-use Rattle.listing_text.proofs.put_rows.Statement.{statement}
-use Rattle.listing_text.proofs.put_rows.Tie as tie
+use Rattle.listing_lines.proofs.Lines.{Listed, listed-none, listed-more, listed-end}
+use Rattle.listing_lines.proofs.put_rows.Statement.{statement}
+use Rattle.listing_lines.proofs.put_rows.Tie as tie
 
 abbrev Inv-loop : tie.InvT-loop
 Inv-loop out₀ order row firsts total₀ i₀ i-end out total i =

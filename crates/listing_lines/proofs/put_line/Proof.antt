@@ -3,10 +3,10 @@ use Prim.Native.Nat.{_+_}
 use lib.ListN.{length-append}
 use Rattle.columns.specs.Columns.{column}
 use Rattle.columns.proofs.Columns.{column-length, sets-then}
-use Rattle.listing_text.specs.Listing.{rowLine}
+use Rattle.listing_lines.specs.Lines.{rowLine}
 use borrow.Author.Needs.{needs}
-use Rattle.listing_text.proofs.put_line.Statement.{statement}
-use Rattle.listing_text.proofs.put_line.Tie as tie
+use Rattle.listing_lines.proofs.put_line.Statement.{statement}
+use Rattle.listing_lines.proofs.put_line.Tie as tie
 
 put-requires : tie.Need-put-requires
 put-requires c κs = search needs
