@@ -5,8 +5,8 @@ use lib.ListN.{length}
 use borrow.Author.Needs.{needs}
 use Rattle.fibonacci.specs.Code.{codeword}
 use Rattle.codewords.proofs.Codewords.{stem-long}
-use Rattle.encoder.proofs.coded.Statement.{statement}
-use Rattle.encoder.proofs.coded.Tie as tie
+use Rattle.codeword_writer.proofs.coded.Statement.{statement}
+use Rattle.codeword_writer.proofs.coded.Tie as tie
 
 stem-requires : tie.Need-stem-requires
 stem-requires c κs = search needs

@@ -1,6 +1,6 @@
 use borrow.Author.Needs.{needs}
-use Rattle.encoder.proofs.put_codeword.Statement.{statement}
-use Rattle.encoder.proofs.put_codeword.Tie as tie
+use Rattle.codeword_writer.proofs.put_codeword.Statement.{statement}
+use Rattle.codeword_writer.proofs.put_codeword.Tie as tie
 
 coded-requires : tie.Need-coded-requires
 coded-requires c κs = search needs

@@ -10,9 +10,9 @@ use Rattle.bits.proofs.Words.{words-length}
 use Rattle.bits.proofs.Put.{put-within, put-part}
 use Rattle.fibonacci.specs.Calls.{largest, longest}
 use Rattle.fibonacci.proofs.Checks.{number-is, legal-at}
-use Rattle.encoder.proofs.Rows.{bits-few, Put, put-none, put-room, put-next, put-end}
-use Rattle.encoder.proofs.put_row.Statement.{statement}
-use Rattle.encoder.proofs.put_row.Tie as tie
+use Rattle.codeword_writer.proofs.Rows.{bits-few, Put, put-none, put-room, put-next, put-end}
+use Rattle.codeword_writer.proofs.put_row.Statement.{statement}
+use Rattle.codeword_writer.proofs.put_row.Tie as tie
 
 abbrev Inv-loop : tie.InvT-loop
 Inv-loop out₀ bytes positions firsts low order row at₀ i₀ i-end out at i =
