@@ -9,9 +9,9 @@ use Rattle.fibonacci.proofs.Numbers.{first-pos}
 use Rattle.fibonacci.proofs.Lookup.{bounded-is, bounded-none, bounded-some, first-few, first-within}
 use Rattle.fibonacci.proofs.Checks.{above-number}
 use Rattle.digit_values.specs.Values.{Capped}
-use Rattle.word_decoder.specs.Words.{Judged}
-use Rattle.word_decoder.proofs.number.Statement.{statement}
-use Rattle.word_decoder.proofs.number.Tie as tie
+use Rattle.word_windows.specs.Windows.{Judged}
+use Rattle.word_windows.proofs.number.Statement.{statement}
+use Rattle.word_windows.proofs.number.Tie as tie
 
 -- a first number, and what a value was found to be
 judged : (f v r n : ℕ) → 1 ≤ f → n ≡ f + r → Capped v r → Judged (f + v) n

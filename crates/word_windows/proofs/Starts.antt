@@ -17,7 +17,7 @@ use Rattle.bits.specs.Bits.{bitOf, wordBits}
 use Rattle.bits.proofs.Words.{bit-and, words-at, words-length, words-zero, words-split, words-mod, words-padded}
 use Rattle.fibonacci.specs.Code.{ones, lead, runs, Codeword}
 use Rattle.fibonacci.proofs.Runs.{runs-all, runs-true, runs-false}
-use Rattle.word_decoder.specs.Words.{starts}
+use Rattle.word_windows.specs.Windows.{starts}
 
 -- ## A word shifted up
 

@@ -5,10 +5,10 @@ use lib.Bits.{bitAnd, and-le-l}
 use borrow.Author.Needs.{needs}
 use Rattle.bits.specs.Bits.{wordBits}
 use Rattle.bits.proofs.Words.{words-length}
-use Rattle.word_decoder.specs.Words.{starts}
-use Rattle.word_decoder.proofs.Starts.{starts-one, marks-join}
-use Rattle.word_decoder.proofs.marks.Statement.{statement}
-use Rattle.word_decoder.proofs.marks.Tie as tie
+use Rattle.word_windows.specs.Windows.{starts}
+use Rattle.word_windows.proofs.Starts.{starts-one, marks-join}
+use Rattle.word_windows.proofs.marks.Statement.{statement}
+use Rattle.word_windows.proofs.marks.Tie as tie
 
 -- x marks where j ones begin in w
 abbrev Marks : ℕ → ℕ → ℕ → Type 0

@@ -3,10 +3,10 @@ use lib.Bits.{and-mask}
 use borrow.Author.Needs.{needs}
 use Rattle.bits.specs.Bits.{unpack}
 use Rattle.bits.proofs.Bytes.{unpack-length}
-use Rattle.word_decoder.proofs.Starts.{starts-none}
-use Rattle.word_decoder.proofs.Taking.{ahead-none, ahead-load}
-use Rattle.word_decoder.proofs.ahead.Statement.{statement}
-use Rattle.word_decoder.proofs.ahead.Tie as tie
+use Rattle.word_windows.proofs.Starts.{starts-none}
+use Rattle.word_windows.proofs.Loading.{ahead-none, ahead-load}
+use Rattle.word_windows.proofs.ahead.Statement.{statement}
+use Rattle.word_windows.proofs.ahead.Tie as tie
 
 add-if1 : tie.Need-add-if1
 add-if1 c = search needs
