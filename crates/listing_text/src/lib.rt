@@ -1,5 +1,4 @@
 // The listing of a row (paper 01, "The listing"), from the bytes of the input to those of the output.
-ghost use mathlib.Core.Path.{_≡_};
 ghost use Rattle.listing_text.specs.Listing.{refusalLine, listingOf, printed, text};
 ghost use Rattle.listing_text.specs.Answers.{Puts};
 

@@ -21,7 +21,6 @@ use Rattle.wavelet.specs.Answers.{treeRefusal, Passed}
 use Rattle.wavelet.specs.declared.Spot.{Spot}
 use Rattle.wavelet.specs.declared.Refusal.{Refusal}
 use Rattle.wavelet.specs.declared.Refusal.the-variants as refusal
-use Rattle.wavelet.specs.declared.Checked.the-variants as checked
 use Rattle.wavelet.proofs.Pruned.{stands-root}
 use Rattle.wavelet.proofs.Depth.{tree-need}
 

@@ -17,7 +17,7 @@ use Rattle.wavelet.specs.Walk.{At, sideOf, ends, Ends, Path}
 use Rattle.wavelet.specs.declared.Spot.{Spot}
 use Rattle.wavelet.proofs.Pruned.{AtNode, stands-node}
 use Rattle.wavelet.proofs.Merging.{select-same, select-same-none}
-use Rattle.wavelet.proofs.Trees.{Under, zeroSide, oneSide, select-one, select-zero, visits-leaf, visits-one, visits-zero}
+use Rattle.wavelet.proofs.Trees.{Under, visits-leaf}
 use Rattle.wavelet.proofs.Ends.{mid-is}
 use Rattle.wavelet.proofs.Walking.{nodeTest, is-node, is-leaf, leaf-only, end-leaf, end-short, end-cut, end-on}
 use Rattle.wavelet.proofs.Sides.{side, held-side, select-side, visits-side, path-side, node-need, node-under}

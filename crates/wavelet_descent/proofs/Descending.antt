@@ -1,5 +1,5 @@
 -- A walk the way of a number: what it finds below a node, from what it finds on one side.
-use mathlib.Core.Path.{_≡_, sym, ap, ap₂, _∙_, subst}
+use mathlib.Core.Path.{_≡_, sym, ap, ap₂, _∙_}
 use mathlib.Core.Bool.{Bool, true, false}
 use mathlib.Core.List.{List, [], _∷_, _++_}
 use Prim.Native.Nat.{ℕ, _+_, _-_, _*_, _≤_, _<_}
@@ -9,7 +9,7 @@ use lib.ListN.{length, getD, take, drop, getD-replicate}
 use Rattle.bits.specs.Bits.{unpack, count}
 use Rattle.bits.proofs.Bytes.{unpack-length}
 use Rattle.fibonacci.specs.Code.{codeword}
-use Rattle.wavelet.specs.Nodes.{Tree, leaf, node, prune}
+use Rattle.wavelet.specs.Nodes.{Tree, node, prune}
 use Rattle.wavelet.specs.Bitmaps.{need, held}
 use Rattle.wavelet.specs.Questions.{rankIn}
 use Rattle.wavelet.specs.Walk.{At, sideOf, ends, Ends}
@@ -22,7 +22,6 @@ use Rattle.wavelet.proofs.Ends.{mid-is}
 use Rattle.wavelet.proofs.Walking.{nodeTest, is-node, is-leaf, leaf-only, end-leaf, end-on}
 use Rattle.wavelet_descent.specs.Descent.{turn, Arrived, Finds}
 use Rattle.wavelet_descent.specs.declared.Way.{Way}
-use Rattle.wavelet_descent.specs.declared.Way.the-variants as way
 use Rattle.wavelet_descent.specs.declared.Found.{Found}
 use Rattle.wavelet.proofs.Sides.{side, count-side, held-side, before-side, place-bit, extract-side, rank-side, visits-side, path-side, node-need, node-under}
 
