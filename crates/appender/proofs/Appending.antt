@@ -21,7 +21,7 @@ use Rattle.fibonacci.proofs.Rows.{numbers-bits}
 use Rattle.reading.specs.Reading.{contents, decode}
 use Rattle.reading.proofs.Decoding.{decode-long, decode-contents, decode-is}
 use Rattle.codewords.proofs.Codewords.{stem-long}
-use Rattle.encoder.proofs.Rows.{bits-snoc}
+use Rattle.codeword_writer.proofs.Rows.{bits-snoc}
 use Rattle.appender.specs.Appending.{append, appendFull, appendInto}
 
 -- the call answers so, for a full row or not, and leaves the buffer as the list after

@@ -22,7 +22,7 @@ use Rattle.reading.proofs.Decoding.{decode-is, decode-accepts, read-is, read-ro
 use Rattle.totals.specs.Totals.{total, repeatedTotal}
 use Rattle.totals.proofs.Totals.{total-sum, repeated-sum}
 use Rattle.encoder.specs.Writing.{write, writeInto}
-use Rattle.encoder.proofs.Rows.{bits-few}
+use Rattle.codeword_writer.proofs.Rows.{bits-few}
 use Rattle.encoder.proofs.Writing.{Writable, write-is, write-accepts}
 use Rattle.appender.specs.Appending.{append, appendInto}
 use Rattle.appender.specs.RoundTrip.{RoundTrip, appendAll}

@@ -37,7 +37,7 @@ fn extend(order: usize, buf: &mut [u8], bits: usize, n: u64) -> usize
     let positions = fibonacci::positions(order);
     let low = codewords::low_digits(order);
     let k = bits / 8;
-    encoder::put_codeword(&mut buf[k..], bits % 8, &positions, &firsts, &low, order, n);
+    codeword_writer::put_codeword(&mut buf[k..], bits % 8, &positions, &firsts, &low, order, n);
     bytes
 }
 

@@ -1,10 +1,9 @@
 // A byte slice as a list of bits, the top bit of each byte first.
 ghost use mathlib.Core.Path.{_≡_};
 ghost use mathlib.Core.Bool.{false};
-ghost use mathlib.Core.List.{_++_};
-ghost use Prim.Native.Nat.{_+_, _-_, _*_, _^_, _≤_, _<_};
+ghost use Prim.Native.Nat.{_+_, _-_, _≤_, _<_};
 ghost use lib.ListN.{length, take, drop, getD, set};
-ghost use Rattle.bits.specs.Bits.{wordBits, unpack, bytesOf, putTo, putAt};
+ghost use Rattle.bits.specs.Bits.{wordBits, unpack};
 
 // Bit k of the slice; false past its end.
 pub fn bit(s: &[u8], k: usize) -> bool
@@ -45,64 +44,6 @@ pub fn wide(x: u8) -> u64
     ensures { λ r. ⌜ (r ≡ x) × (r < 256) ⌝ }
 {
     x as u64
-}
-
-// The n low bytes of w, the highest first, at the front of the slice.
-fn store(s: &mut [u8], w: u64, n: usize)
-    requires { ⌜ (n ≤ 8) × (n ≤ length (now s)) ⌝ }
-    ensures { λ r. ⌜ now (s .exit) ≡ bytesOf n (wordBits (8 * n) w) ++ drop n (now (s .entry)) ⌝ }
-{
-    for i in 0..n {
-        let shifted = w >> (8 * (n - 1 - i));
-        s[i] = (shifted % 256) as u8;
-    }
-}
-
-// The same with all eight bytes of w. (So written it is compiled to one store.)
-fn store_word(s: &mut [u8], w: u64)
-    requires { ⌜ 8 ≤ length (now s) ⌝ }
-    ensures { λ r. ⌜ now (s .exit) ≡ bytesOf 8 (wordBits 64 w) ++ drop 8 (now (s .entry)) ⌝ }
-{
-    s[0] = ((w >> 56) % 256) as u8;
-    s[1] = ((w >> 48) % 256) as u8;
-    s[2] = ((w >> 40) % 256) as u8;
-    s[3] = ((w >> 32) % 256) as u8;
-    s[4] = ((w >> 24) % 256) as u8;
-    s[5] = ((w >> 16) % 256) as u8;
-    s[6] = ((w >> 8) % 256) as u8;
-    s[7] = (w % 256) as u8;
-}
-
-// The first o bits of a byte, then the len low bits of word, then zeros, as the low bits of a word, width of them.
-fn joined(first: u8, o: usize, word: u64, len: usize, width: usize) -> u64
-    requires { ⌜ (o < 8) × (1 ≤ len) × (len ≤ 56) × (word < 2 ^ len) × (8 ≤ width) × (o + len ≤ width) × (width ≤ 64) ⌝ }
-    ensures { λ r. ⌜ wordBits width r ≡ putTo o (wordBits len word) width (wordBits 8 first) ⌝ }
-{
-    let kept = wide(first) >> (8 - o);
-    let pad = width - (o + len);
-    (kept << len | word) << pad
-}
-
-// The len low bits of word after the first o bits of the slice, then zeros to the end of the byte. The writer of codewords, which are 2 to 47 bits long,
-// calls it on the part of its buffer from the byte with the first free bit, once it has seen that they fit.
-pub fn put_word(s: &mut [u8], o: usize, word: u64, len: usize)
-    requires { ⌜ (o < 8) × (1 ≤ len) × (len ≤ 56) × (word < 2 ^ len) × (o + len ≤ 8 * length (now s)) ⌝ }
-    ensures { λ r. ⌜ unpack (now (s .exit)) ≡ putAt o (wordBits len word) (unpack (now (s .entry))) ⌝ }
-{
-    let n = o + len;
-    let count = (n + 7) / 8;
-    let all = joined(s[0], o, word, len, 8 * count);
-    store(s, all, count);
-}
-
-// The same with zeros to the end of the eighth byte, by one store. The writer of rows calls it where eight bytes of the row are left, and writes those
-// behind the word later.
-pub fn put_over(s: &mut [u8], o: usize, word: u64, len: usize)
-    requires { ⌜ (o < 8) × (1 ≤ len) × (len ≤ 56) × (word < 2 ^ len) × (8 ≤ length (now s)) ⌝ }
-    ensures { λ r. ⌜ unpack (now (s .exit)) ≡ putTo o (wordBits len word) 64 (unpack (now (s .entry))) ⌝ }
-{
-    let all = joined(s[0], o, word, len, 64);
-    store_word(s, all);
 }
 
 // Eight bytes of the slice as a word, the first bit on top. (So written it is compiled to one load.) Whoever reads by words tests that eight

@@ -15,7 +15,8 @@ use Rattle.fibonacci.specs.Code.{value}
 use Rattle.fibonacci.specs.Calls.{largest}
 use Rattle.fibonacci.proofs.Numbers.{value-append}
 use Rattle.fibonacci.proofs.Lookup.{values-at}
-use Rattle.digit_values.specs.Values.{byteValue, byteValues, Capped}
+use Rattle.digit_tables.specs.Values.{byteValue, byteValues}
+use Rattle.digit_values.specs.Values.{Capped}
 
 -- ## A look-up
 

@@ -7,35 +7,8 @@ ghost use Rattle.bits.specs.Bits.{wordBits};
 ghost use Rattle.fibonacci.specs.Code.{value};
 ghost use Rattle.fibonacci.specs.Calls.{largest};
 ghost use Rattle.fibonacci.specs.Tables.{Order};
-ghost use Rattle.digit_values.specs.Values.{byteValues, Capped};
-
-mod tables;
-
-use tables::VALUES_2;
-use tables::VALUES_3;
-use tables::VALUES_4;
-use tables::VALUES_5;
-use tables::VALUES_6;
-
-// The values of an order's digits by bytes, over what t holds: a table that a caller makes once and hands to `byte_value` and `value`. Every operation checks its order
-// before. (A constant is written out wherever it is used. So only the order's own is named, and it goes in place: five constants of which one is returned
-// are compiled to a look-up by the order for each entry.)
-pub fn fill(t: &mut [u32; 1536], order: usize)
-    requires { ⌜ Order order ⌝ }
-    ensures { λ r. ⌜ now (t .exit) ≡ byteValues order ⌝ }
-{
-    if order == 2 {
-        *t = VALUES_2;
-    } else if order == 3 {
-        *t = VALUES_3;
-    } else if order == 4 {
-        *t = VALUES_4;
-    } else if order == 5 {
-        *t = VALUES_5;
-    } else {
-        *t = VALUES_6;
-    }
-}
+ghost use Rattle.digit_tables.specs.Values.{byteValues};
+ghost use Rattle.digit_values.specs.Values.{Capped};
 
 // What byte c of x is worth, its top bit being digit 8 c + 1; the largest number where that is above.
 fn entry(values: &[u32; 1536], order: usize, c: usize, x: u64) -> u64
@@ -74,7 +47,7 @@ fn masked(w: u64, len: usize) -> u64
 }
 
 // The value of the first len bits of w, the first being digit 1, of which the last is a zero: every stem of a codeword is empty or ends in one. So one byte is
-// enough for nine bits. The reader has the table from `fill`, and shows that the word begins with such a stem.
+// enough for nine bits. The reader has the table from `digit_tables`, and shows that the word begins with such a stem.
 pub fn byte_value(values: &[u32; 1536], order: usize, w: u64, len: usize) -> u64
     requires { ⌜ Order order × (now values ≡ byteValues order) × (len ≤ 9) × (1 ≤ len → getD (wordBits 64 w) (len - 1) false ≡ false) ⌝ }
     ensures { λ r. ⌜ Capped (value order 1 (take len (wordBits 64 w))) r × (r ≤ largest) ⌝ }

@@ -15,7 +15,7 @@ use Rattle.fibonacci.specs.Tables.{Order}
 use Rattle.fibonacci.specs.Calls.{Outcome, accepted, refused, buffer, isOrder, Legal, largest, longest, checkEach}
 use Rattle.fibonacci.proofs.Checks.{order-is, is-order, check-passed, accepted-one, each-passed, each-accepted, each-refused}
 use Rattle.encoder.specs.Writing.{write, writeInto}
-use Rattle.encoder.proofs.Rows.{bits-few}
+use Rattle.codeword_writer.proofs.Rows.{bits-few}
 
 -- ## What is accepted
 

@@ -1,13 +1,11 @@
 // Writing a row as its encoding of order 2 to 6.
 ghost use mathlib.Core.Path.{_≡_};
-ghost use Prim.Native.Nat.{_+_, _*_, _^_, _≤_, _<_};
+ghost use Prim.Native.Nat.{_≤_};
 ghost use lib.ListN.{length};
-ghost use Rattle.bits.specs.Bits.{wordBits, unpack, byteCount, putAt};
-ghost use Rattle.fibonacci.specs.Code.{F, first, codeword};
+ghost use Rattle.fibonacci.specs.Code.{first};
 ghost use Rattle.fibonacci.specs.Encoding.{rowBits};
 ghost use Rattle.fibonacci.specs.Tables.{Order, tableRow};
-ghost use Rattle.fibonacci.specs.Calls.{accepted, Legal, largest, longest, checkEach};
-ghost use Rattle.codewords.specs.Digits.{lowDigits};
+ghost use Rattle.fibonacci.specs.Calls.{accepted, largest, longest, checkEach};
 ghost use Rattle.encoder.specs.Writing.{write, writeInto};
 ghost use Rattle.encoder.specs.Answers.{writeOutcome, measuredOutcome};
 
@@ -30,42 +28,6 @@ enum Measured {
     Fault(usize),
 }
 
-// A codeword: its bits are the len low ones of a word.
-struct Word {
-    bits: u64,
-    len: usize,
-}
-
-// The codeword of n. Writing and appending check the order and the number before.
-fn coded(positions: &[u32; 47], firsts: &[u32; 47], low: &[u8; 64], order: usize, n: u64) -> Word
-    requires { ⌜ Order order × (now positions ≡ tableRow (F order)) × (now firsts ≡ tableRow (first order)) × (1 ≤ n) × (n ≤ largest) × (now low ≡ lowDigits order) ⌝ }
-    ensures { λ r. ⌜ (wordBits (r .len) (r .bits) ≡ codeword order n) × (r .bits < 2 ^ r .len) × (r .len ≡ length (codeword order n)) × (1 ≤ r .len) × (r .len ≤ 47) ⌝ }
-{
-    let d = codewords::stem(firsts, order, n);
-    let bits = codewords::word(positions, firsts, low, order, n, d);
-    let len = d + order;
-    Word { bits, len }
-}
-
-// The codeword writer: the codeword of n after the first o bits of a part of a buffer, then zeros to the end of the byte; the result is its length.
-// Appending checks the order and the number before, and has seen that it fits.
-pub fn put_codeword(
-    part: &mut [u8],
-    o: usize,
-    positions: &[u32; 47],
-    firsts: &[u32; 47],
-    low: &[u8; 64],
-    order: usize,
-    n: u64,
-) -> usize
-    requires { ⌜ Order order × (now positions ≡ tableRow (F order)) × (now firsts ≡ tableRow (first order)) × (1 ≤ n) × (n ≤ largest) × (o < 8) × (o + length (codeword order n) ≤ 8 * length (now part)) × (now low ≡ lowDigits order) ⌝ }
-    ensures { λ r. ⌜ (r ≡ length (codeword order n)) × (unpack (now (part .exit)) ≡ putAt o (codeword order n) (unpack (now (part .entry)))) ⌝ }
-{
-    let w = coded(positions, firsts, low, order, n);
-    bits::put_word(part, o, w.bits, w.len);
-    w.len
-}
-
 // How many bits the codewords of a row have, or the place of the first number that is 0 or above the limit.
 fn measure(firsts: &[u32; 47], order: usize, row: &[u32], limit: u64) -> Measured
     requires { ⌜ Order order × (now firsts ≡ tableRow (first order)) × (length (now row) ≤ longest) × (limit ≤ largest) ⌝ }
@@ -80,33 +42,6 @@ fn measure(firsts: &[u32; 47], order: usize, row: &[u32], limit: u64) -> Measure
         bits += codewords::stem(firsts, order, n) + order;
     }
     Measured::Bits(bits)
-}
-
-// The codewords of a row from the front of a buffer. They take so many bytes, and fit. While eight of those are left, a codeword is put over all eight:
-// what stands behind it is written later.
-fn put_row(
-    out: &mut [u8],
-    bytes: usize,
-    positions: &[u32; 47],
-    firsts: &[u32; 47],
-    low: &[u8; 64],
-    order: usize,
-    row: &[u32],
-)
-    requires { ⌜ Order order × (now positions ≡ tableRow (F order)) × (now firsts ≡ tableRow (first order)) × (length (now row) ≤ longest) × Legal largest (now row) × (bytes ≡ byteCount (length (rowBits order (now row)))) × (bytes ≤ length (now out)) × (now low ≡ lowDigits order) ⌝ }
-    ensures { λ r. ⌜ unpack (now (out .exit)) ≡ putAt 0 (rowBits order (now (row .entry))) (unpack (now (out .entry))) ⌝ }
-{
-    let mut at: usize = 0;
-    for i in 0..row.len() {
-        let w = coded(positions, firsts, low, order, fibonacci::wide(row[i]));
-        let k = at / 8;
-        if k + 8 <= bytes {
-            bits::put_over(&mut out[k..], at % 8, w.bits, w.len);
-        } else {
-            bits::put_word(&mut out[k..], at % 8, w.bits, w.len);
-        }
-        at += w.len;
-    }
 }
 
 // Writes a row. It is measured first, as a refusal must leave the output as it was.
@@ -130,7 +65,7 @@ pub fn write(order: usize, row: &[u32], out: &mut [u8]) -> WriteAnswer
             }
             let positions = fibonacci::positions(order);
             let low = codewords::low_digits(order);
-            put_row(out, bytes, &positions, &firsts, &low, order, row);
+            codeword_writer::put_row(out, bytes, &positions, &firsts, &low, order, row);
             WriteAnswer::Written { bytes, bits }
         }
     }

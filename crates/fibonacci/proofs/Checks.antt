@@ -2,9 +2,10 @@
 use mathlib.Core.Path.{_≡_, refl, sym}
 use mathlib.Core.Bool.{Bool, true, false, not, _&&_, false≢true}
 use mathlib.Core.List.{List, [], _∷_}
-use Prim.Native.Nat.{ℕ, suc, _≤_, _<_}
+use Prim.Native.Nat.{ℕ, zero, suc, _≤_, _<_}
 use native.Mathlib.Omega.{arith}
 use lib.Dec.{leb}
+use lib.ListN.{length, getD}
 use borrow.Author.Tests.{le-leb, lt-leb, leb-true, not-false}
 use Rattle.fibonacci.specs.Calls.{Outcome, accepted, refused, check, andThen, within, isOrder, isNumber, Legal, checkEach}
 use Rattle.fibonacci.specs.Encoding.{Positive}
@@ -43,6 +44,12 @@ above-number limit n p h = simp (le-leb 1 n p, lt-leb n limit h)
 pub positive : (limit : ℕ) (row : List ℕ) → Legal limit row → Positive row
 positive limit [] a = tt
 positive limit (n ∷ row) a = (number-is limit n (a .0) .0, positive limit row (a .1))
+
+-- the number at a place of a legal row is legal
+pub legal-at : (limit : ℕ) (row : List ℕ) (i : ℕ) → Legal limit row → i < length row → isNumber limit (getD row i 0) ≡ true
+legal-at limit [] i a h = absurd (omega arith)
+legal-at limit (n ∷ row) zero a h = a .0
+legal-at limit (n ∷ row) (suc i) a h = legal-at limit row i (a .1) (omega arith)
 
 -- ## Chains of checks
 

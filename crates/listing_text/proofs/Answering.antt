@@ -16,10 +16,12 @@ use Rattle.codewords.proofs.Codewords.{stem-long}
 use Rattle.encoder.specs.Writing.{write}
 use Rattle.encoder.proofs.Writing.{write-is}
 use Rattle.listing_input.specs.Input.{mostInput, fields, isInput}
-use Rattle.listing_text.specs.Listing.{lines, refusalLine, listingOf, listing, printed, text, mostText, TextFits, WholeLines, NothingCut}
+use Rattle.listing_lines.specs.Lines.{lines}
+use Rattle.listing_lines.proofs.Lines.{lines-length}
+use Rattle.listing_text.specs.Listing.{refusalLine, listingOf, listing, printed, text, mostText, TextFits, WholeLines, NothingCut}
 use Rattle.listing_input.proofs.Input.{fields-length, input-form}
 use Rattle.listing_text.proofs.Clipping.{listing-same, order-row, bounded-below}
-use Rattle.listing_text.proofs.Printing.{lines-length, refusal-length}
+use Rattle.listing_text.proofs.Printing.{refusal-length}
 
 -- ## The listing of a row
 

@@ -13,7 +13,8 @@ use Rattle.fibonacci.specs.Tables.{bounded}
 use Rattle.fibonacci.proofs.Checks.{order-is, number-is, above-number, each-accepted, each-refused}
 use Rattle.fibonacci.proofs.Lookup.{bounded-is, bounded-not}
 use Rattle.encoder.specs.Writing.{write}
-use Rattle.listing_text.specs.Listing.{lines, listingOf}
+use Rattle.listing_lines.specs.Lines.{lines}
+use Rattle.listing_text.specs.Listing.{listingOf}
 
 number-same : (n : ℕ) → isNumber largest (bounded n) ≡ isNumber largest n
 number-same n =

@@ -16,12 +16,11 @@ use Rattle.fibonacci.proofs.Checks.{both, order-is, number-is, not-both, refuse
 use Rattle.wavelet.specs.Nodes.{tree}
 use Rattle.wavelet.specs.Bitmaps.{need, isIndex}
 use Rattle.wavelet.specs.Questions.{mostAlphabet, checkTree, ask}
-use Rattle.wavelet.specs.Walk.{At, Low, ends, Ends, Exact, mostIndex, Root}
-use Rattle.wavelet.specs.Answers.{treeRefusal}
+use Rattle.wavelet.specs.Walk.{At, Low, ends, Ends, Path, Exact, mostIndex, Root}
+use Rattle.wavelet.specs.Answers.{treeRefusal, Passed}
 use Rattle.wavelet.specs.declared.Spot.{Spot}
 use Rattle.wavelet.specs.declared.Refusal.{Refusal}
 use Rattle.wavelet.specs.declared.Refusal.the-variants as refusal
-use Rattle.wavelet.specs.declared.Checked.the-variants as checked
 use Rattle.wavelet.proofs.Pruned.{stands-root}
 use Rattle.wavelet.proofs.Depth.{tree-need}
 
@@ -37,12 +36,6 @@ refuses n true y z next e = refused-same e
 refuses n false true z next e = refused-same e
 refuses n false false true next e = refused-same e
 refuses n false false false next e = absurd (not-both e)
-
--- what is known once they have passed
-pub record Passed (m N k : ℕ) : Type 0 where
-  pub order : isOrder m ≡ true
-  pub alphabet : isNumber mostAlphabet N ≡ true
-  pub count : k ≤ longest
 
 module _ (m N k : ℕ) where
   pub tree-passed : checkTree m N k legal ≡ legal → Passed m N k
@@ -109,3 +102,9 @@ module _ {m N k : ℕ} (p : Passed m N k) where
 
     pub ask-next : {A : Type 0} (next : Outcome A) → isIndex m N k s ≡ true → ask m N k s next ≡ next
     ask-next next e = tree-legal m N k p _ ∙ simp e
+
+-- ## The number asked for
+
+-- its codeword, by other names of the alphabet and the number
+pub asked-path : (m x : ℕ) {l N w n : ℕ} → l ≡ N → w ≡ n → (isNumber l w ≡ true → Path m w x) → isNumber N n ≡ true → Path m n x
+asked-path m x d e asked h = (rw (d, e) at asked) h

@@ -1,17 +1,16 @@
 // The pruned Wavelet tree of the row index, walked: nothing of it is stored, as it follows from the order and the alphabet.
 ghost use mathlib.Core.Path.{_≡_};
 ghost use mathlib.Core.Bool.{true, _&&_};
-ghost use Prim.Native.Nat.{_+_, _-_, _*_, _≤_, _<_, min};
+ghost use Prim.Native.Nat.{_-_, _≤_, _<_, min};
 ghost use lib.Dec.{leb, ltb};
-ghost use lib.ListN.{length, take, drop};
-ghost use Rattle.bits.specs.Bits.{bitOf, unpack, count};
+ghost use Rattle.bits.specs.Bits.{bitOf};
 ghost use Rattle.fibonacci.specs.Code.{F, first};
 ghost use Rattle.fibonacci.specs.Calls.{accepted, isNumber};
 ghost use Rattle.fibonacci.specs.Tables.{Order, tableRow};
 ghost use Rattle.codewords.specs.Digits.{lowDigits};
 ghost use Rattle.wavelet.specs.Questions.{mostAlphabet, checkTree};
 ghost use Rattle.wavelet.specs.Answers.{checkedOutcome};
-ghost use Rattle.wavelet.specs.Walk.{Low, sideOf, Ends, Path, Exact, mostIndex, Root};
+ghost use Rattle.wavelet.specs.Walk.{Low, sideOf, Path, Root};
 
 // The limits of the index: the largest alphabet, and how many bytes an index has at most: 16 bits for each of 4,096 numbers.
 pub const MOST_ALPHABET: u64 = 4096;
@@ -144,64 +143,4 @@ pub fn next_bit(x: u32, depth: usize) -> bool
     ensures { λ r. ⌜ r ≡ bitOf x (31 - depth) ⌝ }
 {
     x >> (31 - depth) & 1 == 1
-}
-
-// How many ones the bitmap of k bits has that starts at bit `at`. Its bytes are handed on with the offset of its first bit. A walk asks it only of bitmaps
-// that do not run past the bytes.
-pub fn ones_in(b: &[u8], at: usize, k: usize) -> usize
-    requires { ⌜ (at + k ≤ 8 * length (now b)) × (length (now b) ≤ mostIndex) ⌝ }
-    ensures { λ r. ⌜ (r ≡ count true (take k (drop at (unpack (now (b .entry)))))) × (r ≤ k) ⌝ }
-{
-    let from = at / 8;
-    let to = (at + k + 7) / 8;
-    bit_counts::ones_from(&b[from..to], at % 8, k)
-}
-
-// Where the bitmaps below a string end that start at bit `at` and are of k numbers; one more than there are bits where they run past them. The questions
-// check order, alphabet and length before, and that the bytes are few; a walk goes on from the root by `side`.
-pub fn end_of(
-    positions: &[u32; 47],
-    order: usize,
-    limit: u64,
-    v: Spot,
-    k: usize,
-    b: &[u8],
-    at: usize,
-) -> usize
-    requires { ⌜ Order order × (now positions ≡ tableRow (F order)) × (limit ≤ mostAlphabet) × Low order v × (length (now b) ≤ mostIndex) × (at ≤ 8 * length (now b)) ⌝ }
-    ensures { λ r. ⌜ Ends order limit v k (now (b .entry)) at r ⌝ }
-{
-    if k == 0 {
-        return at;
-    }
-    if !is_node(order, limit, v) {
-        return at;
-    }
-    let total = b.len() * 8;
-    if k > total - at {
-        return total + 1;
-    }
-    let ones = ones_in(b, at, k);
-    let zero = side(positions, order, v, false);
-    let mid = end_of(positions, order, limit, zero, k - ones, b, at + k);
-    if mid > total {
-        return mid;
-    }
-    let one = side(positions, order, v, true);
-    end_of(positions, order, limit, one, ones, b, mid)
-}
-
-// Whether bitmaps that end at bit `end` take exactly the bytes, and the padding after them holds no one. The questions have seen that the bytes are few.
-pub fn is_exact(b: &[u8], end: usize) -> bool
-    requires { ⌜ length (now b) ≤ mostIndex ⌝ }
-    ensures { λ r. ⌜ Exact (now (b .entry)) end r ⌝ }
-{
-    let total = b.len() * 8;
-    if end > total {
-        return false;
-    }
-    if (end + 7) / 8 != b.len() {
-        return false;
-    }
-    ones_in(b, end, total - end) == 0
 }

@@ -1,6 +1,6 @@
 -- What building answers and leaves behind, check by check.
-use mathlib.Core.Path.{_≡_, refl, sym, ap, ap₂, _∙_, subst}
-use mathlib.Core.Bool.{Bool, true, false}
+use mathlib.Core.Path.{_≡_, refl, sym, ap, ap₂, _∙_}
+use mathlib.Core.Bool.{Bool, false}
 use mathlib.Core.List.{List, [], _∷_, _++_, flatten}
 use Prim.Native.Nat.{ℕ, zero, suc, _+_, _-_, _*_, _≤_, _<_}
 use native.Mathlib.Omega.{arith}
@@ -13,22 +13,14 @@ use Rattle.bits.specs.Bits.{Bytes, unpack, byteCount, pack, padding}
 use Rattle.bits.proofs.Words.{words-zero}
 use Rattle.bits.proofs.Bytes.{unpack-take}
 use Rattle.bits.proofs.Packing.{pack-length, pack-bytes, unpack-pack, unpack-apart}
-use Rattle.fibonacci.specs.Code.{codeword}
-use Rattle.fibonacci.specs.Encoding.{All, Positive}
 use Rattle.fibonacci.specs.Calls.{Outcome, accepted, refused, check, buffer, Legal, checkEach}
-use Rattle.fibonacci.proofs.Checks.{number-is, each-passed, each-refused}
-use Rattle.wavelet.specs.Nodes.{those, begins, tree}
+use Rattle.fibonacci.proofs.Checks.{each-passed, each-refused}
 use Rattle.wavelet.specs.Bitmaps.{bitmaps, index}
 use Rattle.wavelet.specs.Questions.{checkTree, build, buildInto}
-use Rattle.wavelet.specs.Answers.{treeRefusal}
+use Rattle.wavelet.specs.Answers.{treeRefusal, Passed}
 use Rattle.wavelet.specs.declared.Refusal.{Refusal}
 use Rattle.wavelet.specs.declared.Refusal.the-variants as refusal
-use Rattle.wavelet.specs.Walk.{Root}
-use Rattle.wavelet.specs.declared.Spot.{Spot}
-use Rattle.fibonacci.proofs.Each.{all-map}
-use Rattle.wavelet.proofs.Held.{at-all}
-use Rattle.wavelet.proofs.Answering.{legal, Passed, tree-legal, tree-refused, at-root}
-use Rattle.wavelet_build.specs.Building.{Paths, room, Spread}
+use Rattle.wavelet.proofs.Answering.{legal, tree-legal, tree-refused}
 
 -- ## The bytes that were written
 
@@ -79,23 +71,6 @@ bytes-front : (s t : List ℕ) → Bytes (s ++ t) → Bytes s
 bytes-front [] t h i = omega arith
 bytes-front (x ∷ s) t h zero = h 0
 bytes-front (x ∷ s) t h (suc i) = bytes-front s t (λ j. h (suc j)) i
-
--- ## The bitmaps of the whole tree
-
--- there are at most 16 bits for each number
-pub root-room : (v : Spot) (k : ℕ) → Root v → room (v .depth) k ≡ 16 * k
-root-room v k r = ap (λ (s : ℕ). room s k) (r .0)
-
--- what is written below it
-pub root-spread : (m N : ℕ) (row : List ℕ) → Passed m N (length row) → Legal N row → (v : Spot) → Root v
-    → (limit : ℕ) (xs before : List ℕ) (bits : ℕ) (after : List ℕ) → limit ≡ N → Paths m row xs → Spread m limit v xs 0 before bits after
-    → (bits ≡ length (bitmaps m N row)) × (unpack after ≡ sets (unpack before) 0 (bitmaps m N row))
-unfolding bitmaps tree
-root-spread m N row p numbers v r limit xs before bits after e d s =
-    let positive : Positive row = all-map _ (λ n. 1 ≤ n) (λ n h. number-is N n h .0) row numbers in
-    let t : Spread m N v xs 0 before bits after = subst (λ (n : ℕ). Spread m n v xs 0 before bits after) e s in
-    let x = t (m + N) [] row positive (at-root p r) (rw (at-all m row) d) in
-    (x .0 ∙ zero-add _, x .1)
 
 -- ## The answers, check by check
 

@@ -10,8 +10,8 @@ use lib.Seq.{drop-cons, take-suc-set, take-all}
 use Rattle.fibonacci.specs.Calls.{Outcome, accepted, refused, isNumber, checkEach}
 use Rattle.fibonacci.proofs.Checks.{not-both}
 use Rattle.wavelet.specs.Walk.{Path}
-use Rattle.wavelet_build.specs.Building.{Paths}
-use Rattle.wavelet_build.proofs.Stretches.{take-next}
+use Rattle.wavelet_bitmaps.specs.Spreading.{Paths}
+use Rattle.wavelet_bitmaps.proofs.Stretches.{take-next}
 
 -- a number and its word more
 paths-snoc : (m : ℕ) (l xs : List ℕ) (n x : ℕ) → Paths m l xs → Path m n x → Paths m (l ++ (n ∷ [])) (xs ++ (x ∷ []))

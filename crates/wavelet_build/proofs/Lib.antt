@@ -1,5 +1,2 @@
-pub mod Stretches
 pub mod Filling
-pub mod Parting
-pub mod Spreading
 pub mod Building

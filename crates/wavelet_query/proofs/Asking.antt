@@ -1,8 +1,8 @@
 -- The answers of extract and rank.
-use mathlib.Core.Path.{_≡_, refl, sym, ap, ap₂, _∙_, subst}
+use mathlib.Core.Path.{_≡_, refl, sym, ap, ap₂, _∙_}
 use mathlib.Core.Bool.{true, false}
 use mathlib.Core.List.{List, []}
-use Prim.Native.Nat.{ℕ, _+_, _≤_, _<_, min}
+use Prim.Native.Nat.{ℕ, _≤_, _<_, min}
 use native.Mathlib.Omega.{arith}
 use native.Mathlib.Nat.{zero-add}
 use lib.ListN.{getD}
@@ -10,18 +10,16 @@ use borrow.Author.Tests.{le-leb, lt-leb, lt-ltb, le-ltb}
 use Rattle.bits.specs.Bits.{unpack}
 use Rattle.fibonacci.specs.Calls.{accepted, refused, isNumber}
 use Rattle.fibonacci.proofs.Checks.{number-is}
-use Rattle.wavelet.specs.Nodes.{begins, prune, tree, visits}
+use Rattle.wavelet.specs.Nodes.{begins, tree, visits}
 use Rattle.wavelet.specs.Bitmaps.{held, isIndex, rowOf}
 use Rattle.wavelet.specs.Questions.{checkTree, rankIn, extract, rank}
-use Rattle.wavelet.specs.Answers.{treeRefusal}
-use Rattle.wavelet.specs.Walk.{Path, Root}
+use Rattle.wavelet.specs.Answers.{treeRefusal, Passed}
+use Rattle.wavelet.specs.Walk.{Path}
 use Rattle.wavelet.specs.declared.Refusal.{Refusal}
-use Rattle.wavelet.specs.declared.Spot.{Spot}
-use Rattle.wavelet.proofs.Answering.{legal, Passed, tree-refused, at-root, index-end, ask-not, ask-next}
-use Rattle.wavelet_query.specs.Asking.{Arrived, Finds}
-use Rattle.wavelet_query.specs.declared.Way.{Way}
-use Rattle.wavelet_query.specs.declared.Way.the-variants as way
-use Rattle.wavelet_query.specs.declared.Found.{Found}
+use Rattle.wavelet.proofs.Answering.{legal, tree-refused, ask-not, ask-next}
+use Rattle.wavelet_descent.specs.Descent.{Arrived}
+use Rattle.wavelet_descent.specs.declared.Way.the-variants as way
+use Rattle.wavelet_descent.specs.declared.Found.{Found}
 
 -- refused before the bytes are looked at
 module _ (m N k : ℕ) (r : Refusal) (e : treeRefusal r ≡ checkTree m N k legal) (s : List ℕ) where
@@ -33,15 +31,7 @@ module _ (m N k : ℕ) (r : Refusal) (e : treeRefusal r ≡ checkTree m N k lega
   unfolding rank
   rank-refused n i = tree-refused m N k r e _
 
--- what a walk from the root has found
 module _ {m N k : ℕ} (p : Passed m N k) (s : List ℕ) where
-  arrived : isIndex m N k s ≡ true → {v : Spot} (root : Root v) (w : Way) (i : ℕ) (r : Found)
-      → Finds m N v k s 0 w i r → Arrived m N [] (tree m N) (unpack s) k w i 0 r
-  unfolding tree
-  arrived e {v} root w i r found =
-      subst (λ (d : ℕ). Arrived m N [] (prune m N (m + N) []) (unpack s) k w i d r) (root .0)
-      (found .1 (index-end p s root (r .end) (found .0) e) (m + N) [] (at-root p root))
-
   -- ## Extract
 
   module _ (i : ℕ) where
@@ -53,13 +43,11 @@ module _ {m N k : ℕ} (p : Passed m N k) (s : List ℕ) where
     unfolding extract
     extract-place e h = sym (ask-next p s _ e ∙ simp (le-leb k i h))
 
-    pub extract-found : isIndex m N k s ≡ true → i < k → {v : Spot} → Root v
-        → (j : ℕ) → j ≡ min i k → (r : Found) → Finds m N v k s 0 way.Place j r
+    pub extract-found : isIndex m N k s ≡ true → i < k → (r : Found) → Arrived m N [] (tree m N) (unpack s) k way.Place (min i k) 0 r
         → (r .number ≤ N) × (accepted (r .number, r .visits) ≡ extract m N k s i)
     unfolding extract rowOf visits
-    extract-found e h root j ej r found =
-        let same : j ≡ i = omega arith in
-        let a = arrived e root way.Place j r found in
+    extract-found e h r a =
+        let same : min i k ≡ i = omega arith in
         let n : r .number ≡ getD (rowOf m N k s) i 0 = a .at-place refl (omega arith) ∙ ap (λ (x : ℕ). getD (held (tree m N) k (unpack s)) x 0) same in
         let v : r .visits ≡ visits m N (r .number) = a .visited ∙ zero-add _ in (
           a .most,
@@ -81,15 +69,14 @@ module _ {m N k : ℕ} (p : Passed m N k) (s : List ℕ) where
     unfolding rank
     rank-place e l h = sym (ask-next p s _ e ∙ simp (l, lt-ltb k i h))
 
-    pub rank-found : isIndex m N k s ≡ true → isNumber N n ≡ true → i ≤ k → {v : Spot} → Root v
-        → (x : ℕ) → (isNumber N n ≡ true → Path m n x) → (j : ℕ) → j ≡ min i k → (r : Found) → Finds m N v k s 0 (way.Codeword x) j r
+    pub rank-found : isIndex m N k s ≡ true → isNumber N n ≡ true → i ≤ k
+        → (x : ℕ) → Path m n x → (r : Found) → Arrived m N [] (tree m N) (unpack s) k (way.Codeword x) (min i k) 0 r
         → accepted (r .rank, r .visits) ≡ rank m N k s n i
     unfolding rank rowOf visits begins
-    rank-found e l h root x path j ej r found =
-        let same : j ≡ i = omega arith in
-        let a = arrived e root (way.Codeword x) j r found in
+    rank-found e l h x path r a =
+        let same : min i k ≡ i = omega arith in
         let legal = number-is N n l in
-        let found-n : r .number ≡ n = a .at-codeword n x refl (path l) (legal .0) (legal .1) refl in
+        let found-n : r .number ≡ n = a .at-codeword n x refl path (legal .0) (legal .1) refl in
         let c : r .rank ≡ rankIn (rowOf m N k s) n i = a .ranked ∙ ap₂ (λ (y z : ℕ). rankIn (held (tree m N) k (unpack s)) y z) found-n same in
         let v : r .visits ≡ visits m N n = a .visited ∙ zero-add _ ∙ ap (visits m N) found-n in
         ap₂ (λ (y z : ℕ). accepted (y, z)) c v ∙ sym (ask-next p s _ e ∙ simp (l, le-ltb k i h))

@@ -1,2 +1,1 @@
-pub mod Descending
 pub mod Asking

@@ -1,13 +1,9 @@
-// Select, asked of an index. It walks the bitmaps once, down the codeword of the number and back, which also shows whether the bytes are an index.
+// Select, asked of an index, by one walk.
 ghost use mathlib.Core.Path.{_≡_};
-ghost use Prim.Native.Nat.{_+_, _*_, _≤_};
-ghost use lib.ListN.{length, take, drop};
-ghost use Rattle.bits.specs.Bits.{unpack, place};
-ghost use Rattle.fibonacci.specs.Code.{F};
-ghost use Rattle.fibonacci.specs.Tables.{Order, tableRow};
-ghost use Rattle.wavelet.specs.Questions.{mostAlphabet, select};
-ghost use Rattle.wavelet.specs.Walk.{Low, mostIndex};
-ghost use Rattle.wavelet_select.specs.Selecting.{Selects, selectOutcome};
+ghost use Prim.Native.Nat.{_-_};
+ghost use Rattle.wavelet.specs.Questions.{select};
+ghost use Rattle.wavelet_select.specs.Selecting.{selectOutcome};
+use wavelet_ascent::Sought;
 
 // The refusals' numbers are paper 01's.
 pub enum SelectAnswer {
@@ -24,84 +20,11 @@ pub enum SelectAnswer {
     Fewer,
 }
 
-// What a walk for a use finds: where the bitmaps end; the place of the use, or how many places there are; and how many nodes begin the codeword.
-struct Use {
-    end: usize,
-    place: usize,
-    visits: usize,
-}
-
-// The bitmaps run past the bytes, and nothing is found.
-fn lost(end: usize) -> Use
-    ensures { λ r. ⌜ r .end ≡ end ⌝ }
+// How many uses stand before the j-th, j from 1.
+fn skipped(j: usize) -> usize
+    ensures { λ r. ⌜ r ≡ j - 1 ⌝ }
 {
-    Use {
-        end,
-        place: 0,
-        visits: 0,
-    }
-}
-
-// The place of the bit v that has j others of its kind before it in the bitmap of k bits that starts at bit `at`; k where there is none.
-fn place_in(b: &[u8], at: usize, k: usize, v: bool, j: usize) -> usize
-    requires { ⌜ (at + k ≤ 8 * length (now b)) × (length (now b) ≤ mostIndex) ⌝ }
-    ensures { λ r. ⌜ r ≡ place v j (take k (drop at (unpack (now (b .entry))))) ⌝ }
-{
-    let from = at / 8;
-    let to = (at + k + 7) / 8;
-    bit_counts::place_of(&b[from..to], at % 8, k, v, j)
-}
-
-// Walks the bitmaps of k numbers below a string, from bit `at` on, the way of the codeword x, for the use that has j others before it.
-fn climb(
-    positions: &[u32; 47],
-    order: usize,
-    limit: u64,
-    v: wavelet::Spot,
-    k: usize,
-    b: &[u8],
-    at: usize,
-    x: u32,
-    j: usize,
-) -> Use
-    requires { ⌜ Order order × (now positions ≡ tableRow (F order)) × (limit ≤ mostAlphabet) × Low order v × (length (now b) ≤ mostIndex) × (at ≤ 8 * length (now b)) ⌝ }
-    ensures { λ r. ⌜ Selects order limit v k (now (b .entry)) at x j r ⌝ }
-{
-    if !wavelet::is_node(order, limit, v) {
-        return Use {
-            end: at,
-            place: wavelet::least(j, k),
-            visits: v.depth,
-        };
-    }
-    let total = b.len() * 8;
-    if k > total - at {
-        return lost(total + 1);
-    }
-    let ones = wavelet::ones_in(b, at, k);
-    let zero = wavelet::side(positions, order, v, false);
-    let one = wavelet::side(positions, order, v, true);
-    if wavelet::next_bit(x, v.depth) {
-        let mid = wavelet::end_of(positions, order, limit, zero, k - ones, b, at + k);
-        if mid > total {
-            return lost(mid);
-        }
-        let found = climb(positions, order, limit, one, ones, b, mid, x, j);
-        let place = place_in(b, at, k, true, found.place);
-        Use { place, ..found }
-    } else {
-        let found = climb(positions, order, limit, zero, k - ones, b, at + k, x, j);
-        if found.end > total {
-            return found;
-        }
-        let end = wavelet::end_of(positions, order, limit, one, ones, b, found.end);
-        let place = place_in(b, at, k, false, found.place);
-        Use {
-            end,
-            place,
-            ..found
-        }
-    }
+    if j == 0 { 0 } else { j - 1 }
 }
 
 // The place of the j-th use of n, j from 1, in the row of `len` numbers up to `alphabet` whose index the bytes are.
@@ -109,34 +32,28 @@ pub fn select(order: usize, alphabet: u32, len: usize, b: &[u8], n: u32, j: usiz
     ensures { λ r. ⌜ selectOutcome r ≡ select order alphabet len (now (b .entry)) n j ⌝ }
 {
     let checked = wavelet::check(order, alphabet, len);
-    match checked {
-        wavelet::Checked::Refused(r) => SelectAnswer::Refused(r),
-        wavelet::Checked::Legal => {
-            if b.len() > wavelet::MOST_INDEX {
-                return SelectAnswer::Index;
-            }
-            let limit = fibonacci::wide(alphabet);
-            let positions = fibonacci::positions(order);
-            let x = wavelet::asked(&positions, order, limit, fibonacci::wide(n));
-            let skipped = if j == 0 { 0 } else { j - 1 };
-            let root = wavelet::root();
-            let found = climb(&positions, order, limit, root, len, b, 0, x, skipped);
-            if !wavelet::is_exact(b, found.end) {
-                return SelectAnswer::Index;
-            }
-            if !fibonacci::is_number(fibonacci::wide(n), limit) {
-                return SelectAnswer::Number;
-            }
-            if j == 0 {
-                return SelectAnswer::Use;
-            }
-            if found.place >= len {
-                return SelectAnswer::Fewer;
-            }
-            SelectAnswer::Selected {
-                place: found.place,
-                visits: found.visits,
-            }
-        }
+    if let wavelet::Checked::Refused(r) = checked {
+        return SelectAnswer::Refused(r);
+    }
+    let positions = fibonacci::positions(order);
+    let limit = fibonacci::wide(alphabet);
+    let number = fibonacci::wide(n);
+    let x = wavelet::asked(&positions, order, limit, number);
+    let sought = wavelet_ascent::seek(&positions, order, alphabet, len, b, x, skipped(j));
+    let Sought::Whole(found) = sought else {
+        return SelectAnswer::Index;
+    };
+    if !fibonacci::is_number(number, limit) {
+        return SelectAnswer::Number;
+    }
+    if j == 0 {
+        return SelectAnswer::Use;
+    }
+    if found.place >= len {
+        return SelectAnswer::Fewer;
+    }
+    SelectAnswer::Selected {
+        place: found.place,
+        visits: found.visits,
     }
 }

@@ -1,16 +1,14 @@
--- A word that has the next bits of an encoding: how it is filled, what its first codeword is, and what is left of it.
+-- A word that has the next bits of an encoding: what its first codeword is, and what is left of it.
 use mathlib.Core.Path.{_≡_, refl, sym, ap, ap₂, subst, _∙_}
 use mathlib.Core.Bool.{Bool, true, false, true≢false}
 use mathlib.Core.List.{List, [], _∷_, _++_, append-assoc, append-nil, flatten}
-use Prim.Native.Nat.{ℕ, zero, suc, _+_, _-_, _*_, _/_, _%_, _^_, _≤_, _<_}
+use Prim.Native.Nat.{ℕ, _+_, _-_, _*_, _%_, _^_, _≤_, _<_}
 use native.Mathlib.Omega.{arith}
 use native.Mathlib.Decide.{decLe}
 use lib.ListN.{length, getD, take, drop, replicate, length-append, length-drop, take-append-drop, replicate-append-replicate}
-use lib.Seq.{take-nil, drop-drop, drop-append-le, take-append-le, take-take, length-take-le}
+use lib.Seq.{drop-drop, drop-append-le, take-append-le, take-take, length-take-le}
 use lib.Count.{leadingZeros}
-use Rattle.bits.specs.Bits.{wordBits, unpack}
-use Rattle.bits.proofs.Bytes.{unpack-take, unpack-drop, unpack-length}
-use Rattle.bits.proofs.Words.{words-zero}
+use Rattle.bits.specs.Bits.{wordBits}
 use Rattle.fibonacci.specs.Code.{value, first, number, codeword, Codeword}
 use Rattle.fibonacci.specs.Encoding.{rowBits}
 use Rattle.fibonacci.specs.Calls.{isNumber, largest}
@@ -20,39 +18,10 @@ use Rattle.fibonacci.proofs.Lookup as lookup
 use Rattle.fibonacci.proofs.Each.{all-append}
 use Rattle.fibonacci.proofs.Numbers.{codeword-number, number-of}
 use Rattle.fibonacci.proofs.Rows.{bits-append}
-use Rattle.word_decoder.specs.Words.{Taken, Judged, starts, Ahead}
-use Rattle.word_decoder.proofs.Starts.{up, words-up, zeros-default, starts-zeros, starts-up, mark-one, mark-none, first-within, first-ends, first-coded, first-zero}
-
-drop-take : {A : Type 0} (t n : ℕ) (l : List A) → drop t (take n l) ≡ take (n - t) (drop t l)
-drop-take zero n l = let e : n ≡ n - 0 = omega arith in ap (λ (k : ℕ). take k l) e
-drop-take (suc t) zero l = let e : 0 ≡ 0 - suc t = omega arith in ap (λ (k : ℕ). take k (drop (suc t) l)) e
-drop-take (suc t) (suc n) [] = sym (take-nil (suc n - suc t))
-drop-take (suc t) (suc n) (x ∷ l) = let e : n - t ≡ suc n - suc t = omega arith in drop-take t n l ∙ ap (λ (k : ℕ). take k (drop t l)) e
-
--- ## A word is filled
-
--- nothing
-pub ahead-none : (b : List Bool) (k : ℕ) → k ≤ length b → Ahead b k 0
-ahead-none b k h = record { some = 0; others = 64; all = refl; within = omega arith; bits = words-zero 64 }
-
--- eight bytes from the one with bit k, moved up so that bit k is on top
-pub ahead-load : (s : List ℕ) (k w : ℕ) → k / 8 + 8 ≤ length s → wordBits 64 w ≡ unpack (take 8 (drop (k / 8) s))
-    → Ahead (unpack s) k (w * 2 ^ (k % 8) % 2 ^ 64)
-ahead-load s k w h e =
-    let o : ℕ = k % 8 in
-    let at : 8 * (k / 8) + o ≡ k = omega arith in
-    record {
-      some = 64 - o;
-      others = o;
-      all = omega arith;
-      within = omega (arith, unpack-length s);
-      bits =
-          words-up 64 w o (omega arith)
-          ∙ ap (λ (l : List Bool). l ++ replicate o false)
-          (ap (drop o) (e ∙ unpack-take (drop (k / 8) s) 8 ∙ ap (take 64) (unpack-drop s (k / 8)))
-          ∙ drop-take o 64 (drop (8 * (k / 8)) (unpack s))
-          ∙ ap (take (64 - o)) (drop-drop o (8 * (k / 8)) (unpack s) ∙ ap (λ (n : ℕ). drop n (unpack s)) at));
-    }
+use Rattle.word_windows.specs.Windows.{Judged, starts, Ahead}
+use Rattle.word_windows.proofs.Loading.{drop-take}
+use Rattle.word_decoder.specs.Words.{Taken}
+use Rattle.word_windows.proofs.Starts.{up, words-up, zeros-default, starts-zeros, starts-up, mark-one, mark-none, first-within, first-ends, first-coded, first-zero}
 
 -- ## The first codeword of a word
 

@@ -1,15 +1,13 @@
 -- Codewords taken out of a string of bits, by words of 64 of them.
 use mathlib.Core.Path.{_≡_}
-use mathlib.Core.Bool.{Bool, false}
-use mathlib.Core.List.{List, [], _∷_, _++_}
-use Prim.Native.Nat.{ℕ, _+_, _≤_, _<_}
-use lib.Dec.{leb}
-use lib.ListN.{length, take, drop, replicate}
+use mathlib.Core.Bool.{Bool}
+use mathlib.Core.List.{List, [], _++_}
+use Prim.Native.Nat.{ℕ, _+_, _≤_}
+use lib.ListN.{length, drop}
 use lib.Seq.{sets, slice}
-use Rattle.bits.specs.Bits.{wordBits}
-use Rattle.fibonacci.specs.Code.{sum, lead}
+use Rattle.fibonacci.specs.Code.{sum}
 use Rattle.fibonacci.specs.Encoding.{rowBits}
-use Rattle.fibonacci.specs.Calls.{Legal, isNumber, largest, longest}
+use Rattle.fibonacci.specs.Calls.{Legal, longest}
 use Rattle.word_decoder.specs.declared.Front.{Front}
 
 -- The bits of b from bit k up to bit e are those of a row, whose numbers go up to a limit
@@ -44,20 +42,3 @@ pub record Stored (m limit : ℕ) (b : List Bool) (before after : List ℕ) (f :
   pub row : List ℕ
   pub begun : Begun m limit b f row
   pub stored : after ≡ sets before 0 row
-
--- n is x where x is at most the largest number; else it is no number of a row
-abbrev pub Judged : ℕ → ℕ → Type 0
-Judged x n = (x ≤ largest → n ≡ x) × (largest < x → isNumber largest n ≡ false)
-
--- Where m ones in a row begin: a one at each such place of the bits
-unfoldable pub starts : ℕ → List Bool → List Bool
-starts m [] = []
-starts m (a ∷ b) = leb m (lead (a ∷ b)) ∷ starts m b
-
--- The word w has the bits of b from bit k on, some of them, and then zeros
-pub record Ahead (b : List Bool) (k w : ℕ) : Type 0 where
-  pub some : ℕ
-  pub others : ℕ
-  pub all : some + others ≡ 64
-  pub within : k + some ≤ length b
-  pub bits : wordBits 64 w ≡ take some (drop k b) ++ replicate others false

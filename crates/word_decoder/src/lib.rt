@@ -1,74 +1,19 @@
 // Codewords of order 2 to 6 taken out of an encoding by words of 64 bits.
 ghost use mathlib.Core.Path.{_≡_};
-ghost use mathlib.Core.Bool.{false};
-ghost use Prim.Native.Nat.{_+_, _-_, _*_, _^_, _≤_, _<_, min};
-ghost use lib.ListN.{length, take, getD};
-ghost use Rattle.bits.specs.Bits.{wordBits, unpack};
-ghost use Rattle.fibonacci.specs.Code.{value, first};
+ghost use Prim.Native.Nat.{_+_, _-_, _*_, _≤_, _<_, min};
+ghost use lib.ListN.{length};
+ghost use Rattle.bits.specs.Bits.{unpack};
+ghost use Rattle.fibonacci.specs.Code.{first};
 ghost use Rattle.fibonacci.specs.Tables.{Order, tableRow};
 ghost use Rattle.fibonacci.specs.Calls.{largest, longest, mostBytes};
-ghost use Rattle.digit_values.specs.Values.{byteValues};
-ghost use Rattle.word_decoder.specs.Words.{Summed, Spanned, Stored, Judged, starts, Ahead};
+ghost use Rattle.digit_tables.specs.Values.{byteValues};
+ghost use Rattle.word_decoder.specs.Words.{Summed, Spanned, Stored};
 
 // How far codewords were taken: up to which bit, how many, and the sum of those that were asked for.
 pub struct Front {
     pub bit: usize,
     pub count: usize,
     pub sum: u64,
-}
-
-// The next bits of an encoding, the first on top, and where in them as many ones as the order begin.
-struct Window {
-    left: u64,
-    starts: u64,
-}
-
-// Where `order` ones in a row begin in a word: a one at each such place. Ones that begin here and again no further on than they reach are one longer run.
-fn marks(w: u64, order: usize) -> u64
-    requires { ⌜ Order order ⌝ }
-    ensures { λ r. ⌜ (wordBits 64 r ≡ starts order (wordBits 64 w)) × (r < 2 ^ 64) ⌝ }
-{
-    let two = w & w << 1;
-    if order == 2 {
-        return two;
-    }
-    if order <= 4 {
-        return two & two << (order - 2);
-    }
-    let four = two & two << 2;
-    four & four << (order - 4)
-}
-
-// The window from a bit on; an empty one where fewer than eight bytes are left there.
-fn ahead(s: &[u8], order: usize, bit: usize) -> Window
-    requires { ⌜ Order order × (bit ≤ 8 * length (now s)) ⌝ }
-    ensures { λ r. ⌜ Ahead (unpack (now (s .entry))) bit (r .left) × (wordBits 64 (r .starts) ≡ starts order (wordBits 64 (r .left))) × (r .starts < 2 ^ 64) ⌝ }
-{
-    let q = bit >> 3;
-    if s.len() < q + 8 {
-        return Window { left: 0, starts: 0 };
-    }
-    let left = bits::word(s, q) << (bit & 7);
-    Window {
-        left,
-        starts: marks(left, order),
-    }
-}
-
-// The number of the codeword whose bits before its last ones are the first `len` of a word. Where it is above 4,294,967,295, what is returned is so too, or 0.
-fn number(values: &[u32; 1536], firsts: &[u32; 47], order: usize, w: u64, len: usize) -> u64
-    requires { ⌜ Order order × (now values ≡ byteValues order) × (now firsts ≡ tableRow (first order)) × (1 ≤ len → getD (wordBits 64 w) (len - 1) false ≡ false) ⌝ }
-    ensures { λ r. ⌜ Judged (first order len + value order 1 (take len (wordBits 64 w))) r × (r ≤ 7 * largest) ⌝ }
-{
-    if len <= 9 {
-        return fibonacci::first_number(firsts, order, len)
-            + digit_values::byte_value(values, order, w, len);
-    }
-    let least = fibonacci::first_number(firsts, order, len);
-    if least == 0 {
-        return 0;
-    }
-    least + digit_values::value(values, order, w, len)
 }
 
 // Takes codewords from where a front stands, as long as their numbers are legal, each ends in the next word, and there are fewer than `until`: how far it
@@ -88,7 +33,7 @@ fn take_sum(
     let mut bit = from.bit;
     let mut count = from.count;
     let mut sum: u64 = 0;
-    let first = ahead(s, order, bit);
+    let first = word_windows::ahead(s, order, bit);
     let mut left = first.left;
     let mut starts = first.starts;
     if starts == 0 {
@@ -96,7 +41,7 @@ fn take_sum(
     }
     while count < until {
         let len = u64::leading_zeros(starts) as usize;
-        let n = number(values, firsts, order, left, len);
+        let n = word_windows::number(values, firsts, order, left, len);
         if !fibonacci::is_number(n, limit) {
             return Front { bit, count, sum };
         }
@@ -106,7 +51,7 @@ fn take_sum(
         left = left << (len + order);
         starts = starts << (len + order);
         if starts == 0 {
-            let next = ahead(s, order, bit);
+            let next = word_windows::ahead(s, order, bit);
             left = next.left;
             starts = next.starts;
             if starts == 0 {
@@ -166,7 +111,7 @@ pub fn take_span(
     ensures { λ r. ⌜ Spanned order limit from to (unpack (now (s .entry))) r ⌝ }
 {
     let mut values: [u32; 1536] = [0; 1536];
-    digit_values::fill(&mut values, order);
+    digit_tables::fill(&mut values, order);
     let mut bit: usize = 0;
     let mut count: usize = 0;
     let mut sum: u64 = 0;
@@ -191,11 +136,11 @@ pub fn take_row(firsts: &[u32; 47], order: usize, s: &[u8], limit: u64, row: &mu
     ensures { λ r. ⌜ Stored order limit (unpack (now (s .entry))) (now (row .entry)) (now (row .exit)) r × (r .sum ≡ 0) ⌝ }
 {
     let mut values: [u32; 1536] = [0; 1536];
-    digit_values::fill(&mut values, order);
+    digit_tables::fill(&mut values, order);
     let most = up_to(row.len());
     let mut bit: usize = 0;
     let mut count: usize = 0;
-    let first = ahead(s, order, bit);
+    let first = word_windows::ahead(s, order, bit);
     let mut left = first.left;
     let mut starts = first.starts;
     if starts == 0 {
@@ -203,7 +148,7 @@ pub fn take_row(firsts: &[u32; 47], order: usize, s: &[u8], limit: u64, row: &mu
     }
     while count < most {
         let len = u64::leading_zeros(starts) as usize;
-        let n = number(&values, firsts, order, left, len);
+        let n = word_windows::number(&values, firsts, order, left, len);
         if !fibonacci::is_number(n, limit) {
             return Front { bit, count, sum: 0 };
         }
@@ -213,7 +158,7 @@ pub fn take_row(firsts: &[u32; 47], order: usize, s: &[u8], limit: u64, row: &mu
         left = left << (len + order);
         starts = starts << (len + order);
         if starts == 0 {
-            let next = ahead(s, order, bit);
+            let next = word_windows::ahead(s, order, bit);
             left = next.left;
             starts = next.starts;
             if starts == 0 {

@@ -5,7 +5,7 @@ use lib.ListN.{length}
 use borrow.Author.Needs.{needs}
 use borrow.Author.Tests.{not-true, not-false}
 use Rattle.fibonacci.proofs.Checks.{number-is}
-use Rattle.encoder.proofs.Rows.{Counted, counted-none, counted-more, counted-fault, counted-end}
+use Rattle.codeword_writer.proofs.Rows.{Counted, counted-none, counted-more, counted-fault, counted-end}
 use Rattle.encoder.proofs.measure.Statement.{statement}
 use Rattle.encoder.proofs.measure.Tie as tie
 

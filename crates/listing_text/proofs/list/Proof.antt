@@ -5,9 +5,11 @@ use lib.ListN.{length}
 use Rattle.fibonacci.specs.Calls.{mostBytes}
 use Rattle.encoder.specs.Answers.{writeOutcome}
 use Rattle.encoder.proofs.Writing.{Writable, write-is}
-use Rattle.listing_text.specs.Listing.{lines, listingOf, printed}
+use Rattle.listing_lines.specs.Lines.{lines}
+use Rattle.listing_lines.proofs.Lines.{lines-length}
+use Rattle.listing_text.specs.Listing.{listingOf, printed}
 use Rattle.listing_text.specs.declared.ListingAnswer.the-variants.{Text, Room}
-use Rattle.listing_text.proofs.Printing.{lines-length, put-room, put-done, puts-same}
+use Rattle.listing_text.proofs.Printing.{put-room, put-done, puts-same}
 use Rattle.listing_text.proofs.Answering.{list-written, list-refused}
 use borrow.Author.Needs.{needs}
 use Rattle.listing_text.proofs.list.Statement.{statement}

@@ -1,0 +1,131 @@
+-- A row, number by number: its check, the length of its bits, and the bits put into a buffer.
+use mathlib.Core.Path.{_≡_, refl, sym, ap, _∙_}
+use mathlib.Core.Bool.{Bool, true, false}
+use mathlib.Core.List.{List, [], _∷_, _++_, append-nil, flatten}
+use Prim.Native.Nat.{ℕ, _+_, _*_, _≤_, _<_}
+use native.Mathlib.Omega.{arith}
+use native.Mathlib.Numerals.{add-one}
+use lib.ListN.{length, getD, take, drop, length-append, take-append-drop, drop-of-length-le}
+use lib.Seq.{take-suc, take-all, drop-cons}
+use Rattle.bits.specs.Bits.{byteCount, putTo, putAt}
+use Rattle.bits.proofs.Put.{Filled, filled-none, filled-more, filled-end}
+use Rattle.fibonacci.specs.Code.{size, codeword}
+use Rattle.fibonacci.specs.Encoding.{rowBits}
+use Rattle.fibonacci.specs.Calls.{Outcome, accepted, refused, isNumber, Legal, largest, checkEach}
+use Rattle.fibonacci.specs.Tables.{Order}
+use Rattle.fibonacci.proofs.Rows.{bits-append}
+use Rattle.fibonacci.proofs.Checks.{number-is}
+use Rattle.codewords.proofs.Codewords.{stem-long}
+
+-- a number more
+pub bits-snoc : (m : ℕ) (row : List ℕ) (n : ℕ) → rowBits m (row ++ (n ∷ [])) ≡ rowBits m row ++ codeword m n
+unfolding rowBits flatten
+bits-snoc m row n = bits-append m row (n ∷ []) ∙ ap (λ (b : List Bool). rowBits m row ++ b) (append-nil (codeword m n))
+
+-- ## The number n at place i
+
+module _ (row : List ℕ) (i n : ℕ) (h : i < length row) (e : n ≡ getD row i 0) where
+  left : drop i row ≡ n ∷ drop (i + 1) row
+  left = rw (add-one, e) (drop-cons row i 0 h)
+
+  each-more : {A : Type 0} (limit : ℕ) (next : Outcome A) → isNumber limit n ≡ true
+      → checkEach 3 limit i (drop i row) next ≡ checkEach 3 limit (i + 1) (drop (i + 1) row) next
+  unfolding checkEach
+  each-more limit next q = rw (left, q, add-one)
+
+  each-fault : {A : Type 0} (limit : ℕ) (next : Outcome A) → isNumber limit n ≡ false → checkEach 3 limit i (drop i row) next ≡ refused 3 i
+  unfolding checkEach
+  each-fault limit next q = rw (left, q)
+
+  bits-left : (m : ℕ) → rowBits m (drop i row) ≡ codeword m n ++ rowBits m (drop (i + 1) row)
+  unfolding rowBits flatten
+  bits-left m = rw left
+
+  bits-done : (m : ℕ) → rowBits m (take (i + 1) row) ≡ rowBits m (take i row) ++ codeword m n
+  bits-done m =
+      let t : take (i + 1) row ≡ take i row ++ (n ∷ []) = rw (add-one, e) (take-suc row i 0 h) in
+      ap (rowBits m) t ∙ bits-snoc m (take i row) n
+
+bits-split : (m i : ℕ) (row : List ℕ) → rowBits m row ≡ rowBits m (take i row) ++ rowBits m (drop i row)
+bits-split m i row = ap (rowBits m) (sym (take-append-drop i row)) ∙ bits-append m (take i row) (drop i row)
+
+bits-end : (m i : ℕ) (row : List ℕ) → length row ≤ i → rowBits m (drop i row) ≡ []
+unfolding rowBits flatten
+bits-end m i row h = rw (drop-of-length-le row {i = i} h)
+
+-- a codeword of a legal number has at most 47 bits
+pub bits-few : (m : ℕ) (row : List ℕ) → Order m → Legal largest row → length (rowBits m row) ≤ 47 * length row
+unfolding rowBits flatten
+bits-few m [] o a = omega arith
+bits-few m (n ∷ row) o a =
+    let p = number-is largest n (a .0) in
+    omega (arith, length-append (codeword m n) (rowBits m row), stem-long m n (size m n n 0) o (p .0) (p .1) refl, bits-few m row o (a .1))
+
+-- ## Measuring
+
+-- after i numbers: none of them is at fault, and their codewords have so many bits
+abbrev pub Counted : ℕ → ℕ → List ℕ → ℕ → ℕ → Type 0
+Counted m limit row i bits =
+    let total : ℕ = length (rowBits m row) in
+    (bits ≤ 47 * i) × (bits + length (rowBits m (drop i row)) ≡ total)
+    × (checkEach 3 limit 0 row (accepted total) ≡ checkEach 3 limit i (drop i row) (accepted total))
+
+pub counted-none : (m limit : ℕ) (row : List ℕ) → Counted m limit row 0 0
+counted-none m limit row = (omega arith, omega arith, refl)
+
+module _ (m limit : ℕ) (row : List ℕ) (i bits : ℕ) (c : Counted m limit row i bits) where
+  pub counted-more : (n d : ℕ) → i < length row → n ≡ getD row i 0 → isNumber limit n ≡ true → limit ≤ largest → Order m → d ≡ size m n n 0
+      → Counted m limit row (i + 1) (bits + (d + m))
+  counted-more n d h e q l o s =
+      let p = number-is limit n q in
+      let long = stem-long m n d o (p .0) (omega arith) s in
+      let total : ℕ = length (rowBits m row) in (
+        omega (arith, c .0),
+        omega (arith, c .1, ap length (bits-left row i n h e m), length-append (codeword m n) (rowBits m (drop (i + 1) row))),
+        c .2 ∙ each-more row i n h e limit (accepted total) q,
+      )
+
+  pub counted-fault : (n : ℕ) → i < length row → n ≡ getD row i 0 → isNumber limit n ≡ false
+      → refused 3 i ≡ checkEach 3 limit 0 row (accepted (length (rowBits m row)))
+  counted-fault n h e q = sym (c .2 ∙ each-fault row i n h e limit (accepted (length (rowBits m row))) q)
+
+  pub counted-end : length row ≤ i → accepted bits ≡ checkEach 3 limit 0 row (accepted (length (rowBits m row)))
+  unfolding checkEach
+  counted-end h =
+      let b : length (rowBits m row) ≡ bits = omega (arith, c .1, ap length (bits-end m i row h)) in
+      sym (c .2 ∙ rw (drop-of-length-le row {i = i} h) (ap accepted b))
+
+-- ## Putting
+
+-- after i numbers: their codewords stand in the buffer that was old, and from byte c on it is as it was
+abbrev pub Put : ℕ → List ℕ → ℕ → ℕ → ℕ → List Bool → List Bool → Type 0
+Put m row c i at now old = (at ≡ length (rowBits m (take i row))) × Filled (rowBits m (take i row)) (8 * c) now old
+
+pub put-none : (m : ℕ) (row : List ℕ) (c : ℕ) (old : List Bool) → Put m row c 0 0 old old
+unfolding rowBits flatten
+put-none m row c old = (refl, filled-none (8 * c) old)
+
+module _ (m : ℕ) (row : List ℕ) (c i at : ℕ) (now old : List Bool) (p : Put m row c i at now old) where
+  pub put-room : (n : ℕ) → i < length row → n ≡ getD row i 0 → at + length (codeword m n) ≤ length (rowBits m row)
+  put-room n h e =
+      omega (
+        arith,
+        p .0,
+        ap length (bits-split m i row),
+        length-append (rowBits m (take i row)) (rowBits m (drop i row)),
+        ap length (bits-left row i n h e m),
+        length-append (codeword m n) (rowBits m (drop (i + 1) row)),
+      )
+
+  -- with zeros up to bit d
+  pub put-next : (n d : ℕ) (new : List Bool) → i < length row → n ≡ getD row i 0 → 8 * byteCount (at + length (codeword m n)) ≤ d → d ≤ 8 * c
+      → new ≡ putTo at (codeword m n) d now → Put m row c (i + 1) (at + length (codeword m n)) new old
+  put-next n d new h e g k q =
+      let b : List Bool = rowBits m (take i row) in
+      rw (bits-done row i n h e m) (
+        ap (λ (k : ℕ). k + length (codeword m n)) (p .0) ∙ sym (length-append b (codeword m n)),
+        rw (q, p .0) (filled-more b (codeword m n) (8 * c) d now old (p .1) (rw (p .0) at g) k),
+      )
+
+  pub put-end : length row ≤ i → c ≡ byteCount (length (rowBits m row)) → now ≡ putAt 0 (rowBits m row) old
+  put-end h e = filled-end (rowBits m row) now old (rw (take-all i row h, e) at (p .1))

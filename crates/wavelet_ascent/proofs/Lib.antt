@@ -1,0 +1,2 @@
+pub mod Climbing
+pub mod Seeking

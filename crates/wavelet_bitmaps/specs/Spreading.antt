@@ -1,0 +1,45 @@
+-- What the functions that write the bitmaps of a row promise.
+use mathlib.Core.Path.{_≡_}
+use mathlib.Core.Bool.{Bool, not}
+use mathlib.Core.List.{List, [], _∷_, _++_}
+use Prim.Native.Nat.{ℕ, _+_, _-_, _*_}
+use lib.ListN.{length}
+use lib.Seq.{sets}
+use Rattle.bits.specs.Bits.{bitOf, unpack}
+use Rattle.fibonacci.specs.Code.{codeword}
+use Rattle.fibonacci.specs.Encoding.{Positive}
+use Rattle.wavelet.specs.Nodes.{those, begins, prune}
+use Rattle.wavelet.specs.Bitmaps.{joined, bitmaps}
+use Rattle.wavelet.specs.Walk.{At, Path}
+use Rattle.wavelet.specs.declared.Spot.{Spot}
+
+-- Words that have the codewords of a row's numbers, one for each
+abbrev pub Paths : ℕ → List ℕ → List ℕ → Type 0
+Paths m [] [] = Unit {0}
+Paths m [] (x ∷ xs) = ⊥
+Paths m (n ∷ row) [] = ⊥
+Paths m (n ∷ row) (x ∷ xs) = Path m n x × Paths m row xs
+
+-- The bit of a word after s others
+abbrev pub bitAfter : ℕ → ℕ → Bool
+bitAfter s x = bitOf x (31 - s)
+
+-- Words parted by that bit, each side in its order
+abbrev pub parted : ℕ → List ℕ → List ℕ
+parted s xs = those (λ x. not (bitAfter s x)) xs ++ those (bitAfter s) xs
+
+-- How many bits the bitmaps of k numbers take at most below a string of s bits
+abbrev pub room : ℕ → ℕ → ℕ
+room s k = (16 - s) * k
+
+-- What spreading words below a spot writes from bit `at` on, up to bit `end`: the bitmaps below it of any row whose numbers there the words are
+abbrev pub Spread : ℕ → ℕ → Spot → List ℕ → ℕ → List ℕ → ℕ → List ℕ → Type 0
+Spread m N v xs at before end after =
+    (f : ℕ) (q : List Bool) (row : List ℕ) → Positive row → At m N f q v → Paths m (those (λ n. begins q (codeword m n)) row) xs
+    → (end ≡ at + length (joined m (prune m N f q) row)) × (unpack after ≡ sets (unpack before) at (joined m (prune m N f q) row))
+
+-- So from the front, for the whole tree: the bitmaps of any row whose numbers the words are, so many bits
+abbrev pub Written : ℕ → ℕ → List ℕ → List ℕ → ℕ → List ℕ → Type 0
+Written m N xs before bits after =
+    (row : List ℕ) → Positive row → Paths m row xs
+    → (bits ≡ length (bitmaps m N row)) × (unpack after ≡ sets (unpack before) 0 (bitmaps m N row))

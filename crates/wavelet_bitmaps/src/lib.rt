@@ -1,0 +1,103 @@
+// Writing the bitmaps of a row: those below a string of the tree, a node first, then its 0 side, then its 1 side.
+ghost use mathlib.Core.Path.{_≡_};
+ghost use mathlib.Core.Bool.{false};
+ghost use mathlib.Core.List.{map};
+ghost use Prim.Native.Nat.{_+_, _*_, _^_, _≤_, _<_};
+ghost use lib.ListN.{length};
+ghost use lib.Seq.{sets};
+ghost use Rattle.bits.specs.Bits.{unpack, count};
+ghost use Rattle.fibonacci.specs.Code.{F};
+ghost use Rattle.fibonacci.specs.Tables.{Order, tableRow};
+ghost use Rattle.wavelet.specs.Questions.{mostAlphabet};
+ghost use Rattle.wavelet.specs.Answers.{Passed};
+ghost use Rattle.wavelet.specs.Walk.{Low, mostIndex};
+ghost use Rattle.wavelet_bitmaps.specs.Spreading.{bitAfter, parted, room, Spread, Written};
+
+// A node: writes the next bits of the words' codewords as its bitmap from bit `at` on, and parts the words by them, those with a 0 first; the result is how
+// many those are. The others go by way of `spare`. No branch goes by a bit, which a processor cannot foretell: each word is stored on both sides, and its
+// bit says on which it stays.
+fn part(words: &mut [u32], spare: &mut [u32], depth: usize, out: &mut [u8], at: usize) -> usize
+    requires { ⌜ (depth < 32) × (length (now words) ≤ length (now spare)) × (at + length (now words) ≤ 8 * length (now out)) × (8 * length (now out) < 2 ^ 64) ⌝ }
+    ensures { λ r. ⌜ (r ≡ count false (map (bitAfter depth) (now (words .entry)))) × (now (words .exit) ≡ parted depth (now (words .entry))) × (unpack (now (out .exit)) ≡ sets (unpack (now (out .entry))) at (map (bitAfter depth) (now (words .entry)))) ⌝ }
+{
+    let mut ones: usize = 0;
+    for i in 0..words.len() {
+        let x = words[i];
+        let one = wavelet::next_bit(x, depth);
+        bits::set_bit(out, at + i, one);
+        spare[ones] = x;
+        words[i - ones] = x;
+        ones += one as usize;
+    }
+    let zeros = words.len() - ones;
+    lists::copy(&mut words[zeros..], spare, ones);
+    zeros
+}
+
+// Writes the bitmaps below a string, from bit `at` on, of the numbers whose codewords the words have; the result is where they end. At a node the words
+// are parted in place, so each side has its own part of them, in the row's order.
+fn spread(
+    positions: &[u32; 47],
+    order: usize,
+    limit: u64,
+    v: wavelet::Spot,
+    words: &mut [u32],
+    spare: &mut [u32],
+    out: &mut [u8],
+    at: usize,
+) -> usize
+    requires { ⌜ Order order × (now positions ≡ tableRow (F order)) × (limit ≤ mostAlphabet) × Low order v × (length (now words) ≤ length (now spare)) × (at + room (v .depth) (length (now words)) ≤ 8 * length (now out)) × (length (now out) ≤ mostIndex) ⌝ }
+    ensures { λ r. ⌜ (r ≤ at + room (v .depth) (length (now (words .entry)))) × Spread order limit v (now (words .entry)) at (now (out .entry)) r (now (out .exit)) ⌝ }
+{
+    let n = words.len();
+    if n == 0 {
+        return at;
+    }
+    if !wavelet::is_node(order, limit, v) {
+        return at;
+    }
+    let zeros = part(words, spare, v.depth, out, at);
+    let zero = wavelet::side(positions, order, v, false);
+    let mid = spread(
+        positions,
+        order,
+        limit,
+        zero,
+        &mut words[..zeros],
+        spare,
+        out,
+        at + n,
+    );
+    let one = wavelet::side(positions, order, v, true);
+    spread(
+        positions,
+        order,
+        limit,
+        one,
+        &mut words[zeros..],
+        spare,
+        out,
+        mid,
+    )
+}
+
+// Writes the bitmaps of a row from the front of a buffer; the words have the codewords of its numbers. The result is how many bits they have. Building
+// checks order, alphabet and length before.
+pub fn spread_row(order: usize, alphabet: u32, words: &mut [u32], out: &mut [u8]) -> usize
+    requires { ⌜ Passed order alphabet (length (now words)) × (length (now out) ≡ mostIndex) ⌝ }
+    ensures { λ r. ⌜ (r ≤ 8 * mostIndex) × Written order alphabet (now (words .entry)) (now (out .entry)) r (now (out .exit)) ⌝ }
+{
+    let positions = fibonacci::positions(order);
+    let limit = fibonacci::wide(alphabet);
+    let mut spare: [u32; fibonacci::LONGEST] = [0; fibonacci::LONGEST];
+    spread(
+        &positions,
+        order,
+        limit,
+        wavelet::root(),
+        words,
+        &mut spare,
+        out,
+        0,
+    )
+}

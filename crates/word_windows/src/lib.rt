@@ -1,0 +1,66 @@
+// Words of 64 bits of an encoding of order 2 to 6: where codewords end in them, and their numbers.
+ghost use mathlib.Core.Path.{_≡_};
+ghost use mathlib.Core.Bool.{false};
+ghost use Prim.Native.Nat.{_+_, _-_, _*_, _^_, _≤_, _<_};
+ghost use lib.ListN.{length, take, getD};
+ghost use Rattle.bits.specs.Bits.{wordBits, unpack};
+ghost use Rattle.fibonacci.specs.Code.{value, first};
+ghost use Rattle.fibonacci.specs.Tables.{Order, tableRow};
+ghost use Rattle.fibonacci.specs.Calls.{largest};
+ghost use Rattle.digit_tables.specs.Values.{byteValues};
+ghost use Rattle.word_windows.specs.Windows.{Judged, starts, Ahead};
+
+// The next bits of an encoding, the first on top, and where in them as many ones as the order begin.
+pub struct Window {
+    pub left: u64,
+    pub starts: u64,
+}
+
+// Where `order` ones in a row begin in a word: a one at each such place. Ones that begin here and again no further on than they reach are one longer run.
+fn marks(w: u64, order: usize) -> u64
+    requires { ⌜ Order order ⌝ }
+    ensures { λ r. ⌜ (wordBits 64 r ≡ starts order (wordBits 64 w)) × (r < 2 ^ 64) ⌝ }
+{
+    let two = w & w << 1;
+    if order == 2 {
+        return two;
+    }
+    if order <= 4 {
+        return two & two << (order - 2);
+    }
+    let four = two & two << 2;
+    four & four << (order - 4)
+}
+
+// The window from a bit on; an empty one where fewer than eight bytes are left there. The decoder has checked the order, and stays within the bytes.
+pub fn ahead(s: &[u8], order: usize, bit: usize) -> Window
+    requires { ⌜ Order order × (bit ≤ 8 * length (now s)) ⌝ }
+    ensures { λ r. ⌜ Ahead (unpack (now (s .entry))) bit (r .left) × (wordBits 64 (r .starts) ≡ starts order (wordBits 64 (r .left))) × (r .starts < 2 ^ 64) ⌝ }
+{
+    let q = bit >> 3;
+    if s.len() < q + 8 {
+        return Window { left: 0, starts: 0 };
+    }
+    let left = bits::word(s, q) << (bit & 7);
+    Window {
+        left,
+        starts: marks(left, order),
+    }
+}
+
+// The number of the codeword whose bits before its last ones are the first `len` of a word. Where it is above 4,294,967,295, what is returned is so too, or 0. The
+// decoder has the tables from `digit_tables` and `fibonacci`, and a word that begins with such bits.
+pub fn number(values: &[u32; 1536], firsts: &[u32; 47], order: usize, w: u64, len: usize) -> u64
+    requires { ⌜ Order order × (now values ≡ byteValues order) × (now firsts ≡ tableRow (first order)) × (1 ≤ len → getD (wordBits 64 w) (len - 1) false ≡ false) ⌝ }
+    ensures { λ r. ⌜ Judged (first order len + value order 1 (take len (wordBits 64 w))) r × (r ≤ 7 * largest) ⌝ }
+{
+    if len <= 9 {
+        return fibonacci::first_number(firsts, order, len)
+            + digit_values::byte_value(values, order, w, len);
+    }
+    let least = fibonacci::first_number(firsts, order, len);
+    if least == 0 {
+        return 0;
+    }
+    least + digit_values::value(values, order, w, len)
+}
