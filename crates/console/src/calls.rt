@@ -59,19 +59,17 @@ pub fn numbers_of(kind: Kind) -> usize {
     }
 }
 
-// What follows the numbers.
+// What follows the numbers: a list, a text, or nothing.
 pub enum Tail {
-    Nothing,
     Row,
     Bytes,
-    Text,
+    Other,
 }
 
 pub fn tail_of(kind: Kind) -> Tail {
     match kind {
-        Kind::Unknown | Kind::Help => Tail::Nothing,
         Kind::Codewords | Kind::Write | Kind::Build | Kind::Listing => Tail::Row,
-        Kind::ListingText => Tail::Text,
+        Kind::Unknown | Kind::Help | Kind::ListingText => Tail::Other,
         _ => Tail::Bytes,
     }
 }

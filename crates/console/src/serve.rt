@@ -9,7 +9,6 @@ use crate::texts;
 use crate::words;
 use crate::words::Found;
 use answers::Answer;
-use check::same;
 use std::num::wrapping_add_usize;
 
 // The most bytes and numbers that a request may have, and have room for. An appended codeword has at most 47 bits.
@@ -80,12 +79,15 @@ fn written(kind: Kind, first: u64) -> usize {
 
 // ## Outputs. A fresh one is filled with bytes A5, or numbers 7777777, so that what a call leaves alone shows.
 
-// The whole output where its room was named, else what an accepted call has written.
-fn shown(out: &mut [u8], at: usize, r: Request, a: Answer, count: usize, s: &[u8]) -> usize {
-    let n = if r.whole { s.len() } else { count };
-    if !r.whole && a.number != 0 {
-        return at;
+// How much of an output is shown: the whole where its room was named, else what an accepted call has written; more than there is where nothing is.
+fn extent(r: Request, a: Answer, written: usize, len: usize) -> usize {
+    if r.whole {
+        return len;
     }
+    if a.number == 0 { written } else { usize::MAX }
+}
+
+fn shown(out: &mut [u8], at: usize, r: Request, n: usize, s: &[u8]) -> usize {
     if n > s.len() {
         return at;
     }
@@ -93,11 +95,7 @@ fn shown(out: &mut [u8], at: usize, r: Request, a: Answer, count: usize, s: &[u8
     say::bytes(out, at, &s[0..n])
 }
 
-fn shown_row(out: &mut [u8], at: usize, r: Request, a: Answer, row: &[u32]) -> usize {
-    let n = if r.whole { row.len() } else { a.first as usize };
-    if !r.whole && a.number != 0 {
-        return at;
-    }
+fn shown_row(out: &mut [u8], at: usize, r: Request, n: usize, row: &[u32]) -> usize {
     if n > row.len() {
         return at;
     }
@@ -128,7 +126,8 @@ fn bytes_in(
 ) -> usize {
     let a = calls::into_bytes(kind, n, row, s, r.used, buf);
     let at = answered(out, r.k, a);
-    let at = shown(out, at, r, a, written(kind, a.first), buf);
+    let n = extent(r, a, written(kind, a.first), buf.len());
+    let at = shown(out, at, r, n, buf);
     bitmaps(out, at, kind, a.first, buf)
 }
 
@@ -152,7 +151,7 @@ fn into_bytes(
     begin(kind, s, &mut buf);
     let size = r.size;
     if size > MOST_BYTES + APPENDED {
-        return expected(out, r.k);
+        return 0;
     }
     bytes_in(out, kind, r, n, row, s, &mut buf[0..size])
 }
@@ -167,14 +166,15 @@ fn row_in(
 ) -> usize {
     let a = calls::into_row(kind, n, s, row);
     let at = answered(out, r.k, a);
-    shown_row(out, at, r, a, row)
+    let n = extent(r, a, a.first as usize, row.len());
+    shown_row(out, at, r, n, row)
 }
 
 fn into_row(out: &mut [u8], kind: Kind, r: Request, n: &[u64; 5], s: &[u8]) -> usize {
     let mut row = [7777777u32; MOST_NUMBERS];
     let size = r.size;
     if size > MOST_NUMBERS {
-        return expected(out, r.k);
+        return 0;
     }
     row_in(out, kind, r, n, s, &mut row[0..size])
 }
@@ -221,7 +221,7 @@ fn codewords(out: &mut [u8], order: u64, row: &[u32]) -> usize {
 
 fn table(out: &mut [u8], kind: Kind, k: usize, n: &[u64; 5], s: &[u8]) -> usize {
     if s.len() != 1 {
-        return expected(out, k);
+        return 0;
     }
     match kind {
         Kind::TableRow => texts::results(out, k, &calls::table_row(n, s[0])),
@@ -329,34 +329,22 @@ fn listed(
     let mut list = [0u32; MOST_BYTES];
     let mut s = [0u8; MOST_BYTES];
     let Found::Count(count) = words::elements(hexadecimal, line, at, &mut list) else {
-        return expected(out, k);
+        return 0;
     };
     words::narrowed(&list, &mut s);
     let numbers = if hexadecimal { 0 } else { count };
     let bytes = if hexadecimal { count } else { 0 };
+    let r = request_of(kind, k, room, count);
     if numbers > MOST_BYTES {
-        return expected(out, k);
+        return 0;
     }
     if bytes > MOST_BYTES {
-        return expected(out, k);
+        return 0;
     }
-    let r = request_of(kind, k, room, count);
     if r.size > MOST_BYTES + APPENDED {
-        return expected(out, k);
+        return 0;
     }
     with_list(out, kind, r, n, &list[0..numbers], &s[0..bytes])
-}
-
-// The text behind the blank at a place.
-fn with_text(out: &mut [u8], k: usize, room: Room, times: u64, line: &[u8], at: usize) -> usize {
-    if is_named(room) {
-        return expected(out, k);
-    }
-    if at < line.len() {
-        listings::of_text(out, times, &line[at + 1..])
-    } else {
-        listings::of_text(out, times, b"")
-    }
 }
 
 fn is_named(room: Room) -> bool {
@@ -366,69 +354,79 @@ fn is_named(room: Room) -> bool {
     }
 }
 
-// A request that is its name alone.
-fn alone(out: &mut [u8], kind: Kind, k: usize, line: &[u8], at: usize) -> usize {
+// A request without a list: a text, which stands behind the blank at a place, or its name alone.
+fn unlisted(out: &mut [u8], kind: Kind, times: u64, line: &[u8], at: usize) -> usize {
+    if let Kind::ListingText = kind {
+        let from = if at < line.len() { at + 1 } else { line.len() };
+        if from > line.len() {
+            return 0;
+        }
+        return listings::of_text(out, times, &line[from..]);
+    }
     let w = words::next(line, at);
     if w.from < w.to {
-        return expected(out, k);
+        return 0;
     }
-    match kind {
-        Kind::Help => texts::help(out),
-        _ => expected(out, k),
-    }
+    texts::help(out)
 }
 
-// The request of a line of the help, whose name ends at a place.
+// The answer to the request of a line of the help, whose name ends at a place; 0 where the line has another form.
 fn requested(out: &mut [u8], k: usize, room: Room, line: &[u8], at: usize) -> usize {
     let kind = calls::kind_of(k);
     let numbers = calls::numbers_of(kind);
     let mut n = [0u64; 5];
     if numbers > 5 {
-        return expected(out, k);
+        return 0;
     }
     let Found::Count(at) = words::arguments(line, at, &mut n[0..numbers]) else {
-        return expected(out, k);
+        return 0;
     };
     if !calls::is_fit(kind, &n) {
-        return expected(out, k);
+        return 0;
     }
     let tail = calls::tail_of(kind);
     match tail {
         Tail::Row => listed(out, kind, k, room, &n, line, at, false),
         Tail::Bytes => listed(out, kind, k, room, &n, line, at, true),
-        Tail::Text => with_text(out, k, room, n[0], line, at),
-        Tail::Nothing => if is_named(room) {
-            expected(out, k)
+        Tail::Other => if is_named(room) {
+            0
         } else {
-            alone(out, kind, k, line, at)
+            unlisted(out, kind, n[0], line, at)
         },
     }
 }
 
-// The request that begins behind a place.
+// The answer to the request that begins behind a place.
 fn after(out: &mut [u8], room: Room, line: &[u8], at: usize) -> usize {
     let w = words::next(line, at);
     let from = w.from;
     let to = w.to;
-    requested(out, texts::named(&line[from..to]), room, line, to)
+    let k = texts::request_of(&line[from..to]);
+    if k == 0 {
+        return expected(out, 0);
+    }
+    let end = requested(out, k, room, line, to);
+    if end > 0 {
+        return end;
+    }
+    expected(out, k)
 }
 
-// `room` or `used`, and a number, before a request.
-fn with_room(out: &mut [u8], is_used: bool, line: &[u8], at: usize) -> usize {
-    let mut size = [0u64; 1];
-    let Found::Count(at) = words::arguments(line, at, &mut size) else {
-        return if is_used {
-            say::text(out, 0, b"expected: used N append ORDER NUMBER BYTES")
-        } else {
-            say::text(out, 0, b"expected: room N REQUEST")
-        };
-    };
-    let room = if is_used {
-        Room::Used(size[0])
+fn room_of(k: usize, n: u64) -> Room {
+    if k == texts::USED {
+        Room::Used(n)
     } else {
-        Room::Exactly(size[0])
+        Room::Exactly(n)
+    }
+}
+
+// A number, and then a request, behind `room` or `used`.
+fn with_room(out: &mut [u8], k: usize, line: &[u8], at: usize) -> usize {
+    let mut n = [0u64; 1];
+    let Found::Count(at) = words::arguments(line, at, &mut n) else {
+        return expected(out, k);
     };
-    after(out, room, line, at)
+    after(out, room_of(k, n[0]), line, at)
 }
 
 // The answer without its last line feed; nothing for a line without words, and for a comment.
@@ -442,11 +440,9 @@ fn answer(out: &mut [u8], line: &[u8]) -> usize {
     if line[from] == b'#' {
         return 0;
     }
-    if same(&line[from..to], b"room") {
-        return with_room(out, false, line, to);
-    }
-    if same(&line[from..to], b"used") {
-        return with_room(out, true, line, to);
+    let k = texts::prefix_of(&line[from..to]);
+    if k > 0 {
+        return with_room(out, k, line, to);
     }
     after(out, Room::Enough, line, from)
 }

@@ -5,7 +5,7 @@ ghost use lib.ListN.{length};
 use crate::say;
 use crate::words;
 
-pub const HELP: [u8; 1789] = *b"\
+pub const HELP: [u8; 1915] = *b"\
 A request is a line:\n\
 \x20   codewords ORDER ROW                             codewords 2 3 1 4 2 1\n\
 \x20   write ORDER ROW                                 write 2 3 1 4 2 1\n\
@@ -24,12 +24,13 @@ A request is a line:\n\
 \x20   table-row ONES BYTE                             table-row 1 B7\n\
 \x20   table-value ONES LENGTH BYTE                    table-value 1 4 B7\n\
 \x20   help                                            help\n\
+\x20   room N REQUEST                                  room 3 write 2 3 1 4 2 1\n\
+\x20   used N append ORDER NUMBER BYTES                used 1 append 2 4 FC FF FF\n\
 ROW: numbers; 1x4096 is 4096 ones. BYTES, INDEX: two hexadecimal digits each; FFx1024 is 1024 times FF.\n\
 ORDER: 2 to 6. ALPHABET: the largest number of an index. FROM, TO, PLACE: from 0; USE: from 1.\n\
 table-..: by the table for order 3. TEXT: input of the listing program; $ is a line feed, ^ a carriage return, ~ a tab.\n\
-`room N` before a request that writes: its output has N elements, and all of them are shown.\n\
-`used N` before append: the buffer is BYTES, of which N are in use. A line that begins with # is passed over.\n\
-NO n: a refusal, with its number.\n";
+room N: the output of a request that writes has N elements, and all are shown. used N: the buffer is BYTES, of which N are in use.\n\
+NO n: a refusal, with its number. A line that begins with # is passed over.\n";
 
 // What a request is answered, line by line as in the help: the results, each a `#`; what was written; and, where its room was named, the whole output.
 pub const ANSWERS: [u8; 353] = *b"\
@@ -154,13 +155,13 @@ pub fn results(out: &mut [u8], k: usize, list: &[u64]) -> usize {
 // The help without its last line feed, which follows every answer.
 pub fn help(out: &mut [u8]) -> usize {
     let table = HELP;
-    say::text(out, 0, &table[0..1788])
+    say::text(out, 0, &table[0..1914])
 }
 
-// The request of a name: its line in the help; 0 where there is none.
-pub fn named(name: &[u8]) -> usize {
+// The line of the help, from one up to but without another, that a name begins; 0 where there is none.
+fn named(name: &[u8], from: usize, to: usize) -> usize {
     let table = HELP;
-    for k in 1..18usize {
+    for k in from..to {
         let w = words::next(&table, start(&table, k));
         let from = w.from;
         let to = w.to;
@@ -169,4 +170,16 @@ pub fn named(name: &[u8]) -> usize {
         }
     }
     0
+}
+
+pub fn request_of(name: &[u8]) -> usize {
+    named(name, 1, 18)
+}
+
+pub const ROOM: usize = 18;
+
+pub const USED: usize = 19;
+
+pub fn prefix_of(name: &[u8]) -> usize {
+    named(name, ROOM, USED + 1)
 }

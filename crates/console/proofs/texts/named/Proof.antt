@@ -6,10 +6,10 @@ use Rattle.console.proofs.texts.named.Statement.{statement}
 use Rattle.console.proofs.texts.named.Tie as tie
 
 abbrev Inv-loop : tie.InvT-loop
-Inv-loop name table k₀ k = k ≤ 18
+Inv-loop name from to table k₀ k = from ≤ k
 
 abbrev μ-loop : tie.MeasureT-loop
-μ-loop name table k₀ k = 18 - k
+μ-loop name from to table k₀ k = to - k
 
 loop-holds : tie.Need-loop-holds Inv-loop μ-loop
 loop-holds c = search needs
