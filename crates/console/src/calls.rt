@@ -1,104 +1,66 @@
-// Requests: what each takes, and the operation that answers it.
+// Requests, each by its line in the help: what it takes, and the operation that answers it.
+use crate::texts;
 use answers::Answer;
 use fibonacci::wide;
 
-// In the order of the help.
-pub enum Kind {
-    Unknown,
-    Codewords,
-    Write,
-    Read,
-    TableRead,
-    TableReadBytes,
-    Append,
-    Total,
-    RepeatedTotal,
-    Build,
-    Extract,
-    Rank,
-    Select,
-    Listing,
-    ListingText,
-    TableRow,
-    TableValue,
-    Help,
-}
-
-pub fn kind_of(line: usize) -> Kind {
-    match line {
-        1 => Kind::Codewords,
-        2 => Kind::Write,
-        3 => Kind::Read,
-        4 => Kind::TableRead,
-        5 => Kind::TableReadBytes,
-        6 => Kind::Append,
-        7 => Kind::Total,
-        8 => Kind::RepeatedTotal,
-        9 => Kind::Build,
-        10 => Kind::Extract,
-        11 => Kind::Rank,
-        12 => Kind::Select,
-        13 => Kind::Listing,
-        14 => Kind::ListingText,
-        15 => Kind::TableRow,
-        16 => Kind::TableValue,
-        17 => Kind::Help,
-        _ => Kind::Unknown,
-    }
-}
-
 // How many decimal numbers follow the name.
-pub fn numbers_of(kind: Kind) -> usize {
-    match kind {
-        Kind::Unknown | Kind::TableRead | Kind::TableReadBytes | Kind::Help => 0,
-        Kind::Append | Kind::RepeatedTotal | Kind::Build | Kind::TableValue => 2,
-        Kind::Total => 3,
-        Kind::Extract => 4,
-        Kind::Rank | Kind::Select => 5,
-        _ => 1,
+pub fn numbers_of(k: usize) -> usize {
+    if k == texts::TABLE_READ || k == texts::TABLE_READ_BYTES || k == texts::HELP_ITSELF {
+        return 0;
+    }
+    if k == texts::APPEND
+        || k == texts::REPEATED_TOTAL
+        || k == texts::BUILD
+        || k == texts::TABLE_VALUE
+    {
+        return 2;
+    }
+    if k == texts::TOTAL {
+        return 3;
+    }
+    if k == texts::EXTRACT {
+        return 4;
+    }
+    if k == texts::RANK || k == texts::SELECT {
+        5
+    } else {
+        1
     }
 }
 
-// What follows the numbers: a list, a text, or nothing.
-pub enum Tail {
-    Row,
-    Bytes,
-    Other,
+// What follows the numbers: a row, bytes, or something else.
+pub fn has_row(k: usize) -> bool {
+    k == texts::CODEWORDS || k == texts::WRITE || k == texts::BUILD || k == texts::LISTING
 }
 
-pub fn tail_of(kind: Kind) -> Tail {
-    match kind {
-        Kind::Codewords | Kind::Write | Kind::Build | Kind::Listing => Tail::Row,
-        Kind::Unknown | Kind::Help | Kind::ListingText => Tail::Other,
-        _ => Tail::Bytes,
-    }
+pub fn has_no_list(k: usize) -> bool {
+    k == texts::LISTING_TEXT || k == texts::HELP_ITSELF
 }
 
-// What a request's operation writes to.
-pub enum Output {
-    None,
-    Row,
-    Bytes,
+// What a request's operation writes to: a row, bytes, or nothing.
+pub fn writes_row(k: usize) -> bool {
+    k == texts::READ || k == texts::TABLE_READ
 }
 
-pub fn output_of(kind: Kind) -> Output {
-    match kind {
-        Kind::Write | Kind::TableReadBytes | Kind::Append | Kind::Build => Output::Bytes,
-        Kind::Read | Kind::TableRead => Output::Row,
-        _ => Output::None,
-    }
+pub fn writes_bytes(k: usize) -> bool {
+    k == texts::WRITE || k == texts::TABLE_READ_BYTES || k == texts::APPEND || k == texts::BUILD
 }
 
 // Whether the numbers of a request are such that its operation can be asked: numbers and alphabets have 32 bits, and an order of the listing ten digits.
-pub fn is_fit(kind: Kind, n: &[u64; 5]) -> bool {
-    match kind {
-        Kind::Append | Kind::Build | Kind::Extract => n[1] <= 4294967295,
-        Kind::Rank | Kind::Select => n[1] <= 4294967295 && n[3] <= 4294967295,
-        Kind::Listing => n[0] <= 9999999999,
-        Kind::TableRow => n[0] <= 2,
-        Kind::TableValue => n[0] <= 2 && n[1] <= 37,
-        _ => true,
+pub fn is_fit(k: usize, n: &[u64; 5]) -> bool {
+    if k == texts::APPEND || k == texts::BUILD || k == texts::EXTRACT {
+        return n[1] <= 4294967295;
     }
+    if k == texts::RANK || k == texts::SELECT {
+        return n[1] <= 4294967295 && n[3] <= 4294967295;
+    }
+    if k == texts::LISTING {
+        return n[0] <= 9999999999;
+    }
+    if k == texts::TABLE_ROW || k == texts::TABLE_VALUE {
+        return n[0] <= 2 && n[1] <= 37;
+    }
+    true
 }
 
 fn narrow(n: u64) -> u32 {
@@ -111,55 +73,96 @@ pub fn write(order: u64, row: &[u32], out: &mut [u8]) -> Answer {
     answers::of_write(encoder::write(order as usize, row, out))
 }
 
+fn build(n: &[u64; 5], row: &[u32], out: &mut [u8]) -> Answer {
+    answers::of_build(wavelet_build::build(n[0] as usize, narrow(n[1]), row, out))
+}
+
+fn append(n: &[u64; 5], used: usize, out: &mut [u8]) -> Answer {
+    answers::of_append(appender::append(n[0] as usize, out, used, narrow(n[1])))
+}
+
 pub fn into_bytes(
-    kind: Kind,
+    k: usize,
     n: &[u64; 5],
     row: &[u32],
     s: &[u8],
     used: usize,
     out: &mut [u8],
 ) -> Answer {
-    let order = n[0] as usize;
-    match kind {
-        Kind::Write => write(n[0], row, out),
-        Kind::Build => answers::of_build(wavelet_build::build(order, narrow(n[1]), row, out)),
-        Kind::Append => answers::of_append(appender::append(order, out, used, narrow(n[1]))),
-        _ => answers::of_read(table_decoder::read_bytes(s, out)),
+    if k == texts::WRITE {
+        return write(n[0], row, out);
     }
+    if k == texts::BUILD {
+        return build(n, row, out);
+    }
+    if k == texts::APPEND {
+        return append(n, used, out);
+    }
+    answers::of_read(table_decoder::read_bytes(s, out))
 }
 
-pub fn into_row(kind: Kind, n: &[u64; 5], s: &[u8], out: &mut [u32]) -> Answer {
-    match kind {
-        Kind::Read => answers::of_read(decoder::read(n[0] as usize, s, out)),
-        _ => answers::of_read(table_decoder::read(s, out)),
+pub fn into_row(k: usize, order: u64, s: &[u8], out: &mut [u32]) -> Answer {
+    if k == texts::READ {
+        return answers::of_read(decoder::read(order as usize, s, out));
     }
+    answers::of_read(table_decoder::read(s, out))
 }
 
-pub fn total(kind: Kind, n: &[u64; 5], s: &[u8]) -> Answer {
-    let order = n[0] as usize;
-    match kind {
-        Kind::Total => answers::of_total(totals::total(order, s, n[1] as usize, n[2] as usize)),
-        _ => answers::of_repeated_total(totals::repeated_total(order, s, n[1])),
-    }
+fn total(n: &[u64; 5], s: &[u8]) -> Answer {
+    answers::of_total(totals::total(n[0] as usize, s, n[1] as usize, n[2] as usize))
 }
 
-pub fn question(kind: Kind, n: &[u64; 5], s: &[u8]) -> Answer {
-    let order = n[0] as usize;
-    let alphabet = narrow(n[1]);
-    let len = n[2] as usize;
-    let number = narrow(n[3]);
-    let place = n[4] as usize;
-    match kind {
-        Kind::Extract => answers::of_extract(wavelet_query::extract(
-            order,
-            alphabet,
-            len,
-            s,
-            n[3] as usize,
-        )),
-        Kind::Rank => answers::of_rank(wavelet_query::rank(order, alphabet, len, s, number, place)),
-        _ => answers::of_select(wavelet_select::select(order, alphabet, len, s, number, place)),
+fn repeated_total(n: &[u64; 5], s: &[u8]) -> Answer {
+    answers::of_repeated_total(totals::repeated_total(n[0] as usize, s, n[1]))
+}
+
+fn extract(n: &[u64; 5], s: &[u8]) -> Answer {
+    answers::of_extract(wavelet_query::extract(
+        n[0] as usize,
+        narrow(n[1]),
+        n[2] as usize,
+        s,
+        n[3] as usize,
+    ))
+}
+
+fn rank(n: &[u64; 5], s: &[u8]) -> Answer {
+    answers::of_rank(wavelet_query::rank(
+        n[0] as usize,
+        narrow(n[1]),
+        n[2] as usize,
+        s,
+        narrow(n[3]),
+        n[4] as usize,
+    ))
+}
+
+fn select(n: &[u64; 5], s: &[u8]) -> Answer {
+    answers::of_select(wavelet_select::select(
+        n[0] as usize,
+        narrow(n[1]),
+        n[2] as usize,
+        s,
+        narrow(n[3]),
+        n[4] as usize,
+    ))
+}
+
+// What only reads.
+pub fn ask(k: usize, n: &[u64; 5], s: &[u8]) -> Answer {
+    if k == texts::TOTAL {
+        return total(n, s);
     }
+    if k == texts::REPEATED_TOTAL {
+        return repeated_total(n, s);
+    }
+    if k == texts::EXTRACT {
+        return extract(n, s);
+    }
+    if k == texts::RANK {
+        return rank(n, s);
+    }
+    select(n, s)
 }
 
 // ## The table of the table decoder

@@ -1,8 +1,5 @@
 // The answer to a line.
 use crate::calls;
-use crate::calls::Kind;
-use crate::calls::Output;
-use crate::calls::Tail;
 use crate::listings;
 use crate::say;
 use crate::texts;
@@ -25,13 +22,13 @@ enum Room {
     Used(u64),
 }
 
-// A request: its line in the help, and whether its room was named, so that the whole output is shown.
+// A request: its line in the help; how many elements its output has, and of an append's buffer how many bytes are in use; whether its room was named, so that
+// the whole output is shown.
 struct Request {
     k: usize,
-    whole: bool,
-    // How many elements the output has, and of an append's buffer how many bytes are in use.
     size: usize,
     used: usize,
+    whole: bool,
 }
 
 // The answer to a line of another form.
@@ -69,12 +66,14 @@ fn answered(out: &mut [u8], k: usize, a: Answer) -> usize {
 }
 
 // How many bytes an operation has written, by its first result.
-fn written(kind: Kind, first: u64) -> usize {
-    match kind {
-        Kind::Build => (first / 8 + (first % 8 + 7) / 8) as usize,
-        Kind::TableReadBytes => (first % 4611686018427387904 * 4) as usize,
-        _ => first as usize,
+fn written(k: usize, first: u64) -> usize {
+    if k == texts::BUILD {
+        return (first / 8 + (first % 8 + 7) / 8) as usize;
     }
+    if k == texts::TABLE_READ_BYTES {
+        return (first % 4097 * 4) as usize;
+    }
+    first as usize
 }
 
 // ## Outputs. A fresh one is filled with bytes A5, or numbers 7777777, so that what a call leaves alone shows.
@@ -104,11 +103,8 @@ fn shown_row(out: &mut [u8], at: usize, r: Request, n: usize, row: &[u32]) -> us
 }
 
 // Up to 64 bits of the bitmaps of an index are shown as bits too.
-fn bitmaps(out: &mut [u8], at: usize, kind: Kind, bits: u64, s: &[u8]) -> usize {
-    let Kind::Build = kind else {
-        return at;
-    };
-    if bits == 0 || bits > 64 {
+fn bitmaps(out: &mut [u8], at: usize, k: usize, bits: u64, s: &[u8]) -> usize {
+    if k != texts::BUILD || bits == 0 || bits > 64 {
         return at;
     }
     let at = say::text(out, at, b"; bitmaps ");
@@ -117,66 +113,54 @@ fn bitmaps(out: &mut [u8], at: usize, kind: Kind, bits: u64, s: &[u8]) -> usize 
 
 fn bytes_in(
     out: &mut [u8],
-    kind: Kind,
     r: Request,
     n: &[u64; 5],
     row: &[u32],
     s: &[u8],
     buf: &mut [u8],
 ) -> usize {
-    let a = calls::into_bytes(kind, n, row, s, r.used, buf);
+    let a = calls::into_bytes(r.k, n, row, s, r.used, buf);
     let at = answered(out, r.k, a);
-    let n = extent(r, a, written(kind, a.first), buf.len());
-    let at = shown(out, at, r, n, buf);
-    bitmaps(out, at, kind, a.first, buf)
+    let at = shown(
+        out,
+        at,
+        r,
+        extent(r, a, written(r.k, a.first), buf.len()),
+        buf,
+    );
+    bitmaps(out, at, r.k, a.first, buf)
 }
 
 // The buffer of an append begins with its bytes.
-fn begin(kind: Kind, s: &[u8], buf: &mut [u8]) {
-    let Kind::Append = kind else {
-        return;
-    };
-    say::text(buf, 0, s);
+fn begin(k: usize, s: &[u8], buf: &mut [u8]) {
+    if k == texts::APPEND {
+        say::text(buf, 0, s);
+    }
 }
 
-fn into_bytes(
-    out: &mut [u8],
-    kind: Kind,
-    r: Request,
-    n: &[u64; 5],
-    row: &[u32],
-    s: &[u8],
-) -> usize {
+fn into_bytes(out: &mut [u8], r: Request, n: &[u64; 5], row: &[u32], s: &[u8]) -> usize {
     let mut buf = [0xA5u8; MOST_BYTES + APPENDED];
-    begin(kind, s, &mut buf);
+    begin(r.k, s, &mut buf);
     let size = r.size;
     if size > MOST_BYTES + APPENDED {
         return 0;
     }
-    bytes_in(out, kind, r, n, row, s, &mut buf[0..size])
+    bytes_in(out, r, n, row, s, &mut buf[0..size])
 }
 
-fn row_in(
-    out: &mut [u8],
-    kind: Kind,
-    r: Request,
-    n: &[u64; 5],
-    s: &[u8],
-    row: &mut [u32],
-) -> usize {
-    let a = calls::into_row(kind, n, s, row);
+fn row_in(out: &mut [u8], r: Request, order: u64, s: &[u8], row: &mut [u32]) -> usize {
+    let a = calls::into_row(r.k, order, s, row);
     let at = answered(out, r.k, a);
-    let n = extent(r, a, a.first as usize, row.len());
-    shown_row(out, at, r, n, row)
+    shown_row(out, at, r, extent(r, a, a.first as usize, row.len()), row)
 }
 
-fn into_row(out: &mut [u8], kind: Kind, r: Request, n: &[u64; 5], s: &[u8]) -> usize {
+fn into_row(out: &mut [u8], r: Request, order: u64, s: &[u8]) -> usize {
     let mut row = [7777777u32; MOST_NUMBERS];
     let size = r.size;
     if size > MOST_NUMBERS {
         return 0;
     }
-    row_in(out, kind, r, n, s, &mut row[0..size])
+    row_in(out, r, order, s, &mut row[0..size])
 }
 
 // ## Codewords, and the table
@@ -219,122 +203,99 @@ fn codewords(out: &mut [u8], order: u64, row: &[u32]) -> usize {
     each_codeword(out, order, row)
 }
 
-fn table(out: &mut [u8], kind: Kind, k: usize, n: &[u64; 5], s: &[u8]) -> usize {
+fn table(out: &mut [u8], k: usize, n: &[u64; 5], s: &[u8]) -> usize {
     if s.len() != 1 {
         return 0;
     }
-    match kind {
-        Kind::TableRow => texts::results(out, k, &calls::table_row(n, s[0])),
-        _ => texts::results(out, k, &[calls::table_value(n, s[0])]),
+    if k == texts::TABLE_ROW {
+        return texts::results(out, k, &calls::table_row(n, s[0]));
     }
+    texts::results(out, k, &[calls::table_value(n, s[0])])
 }
 
 // ## Requests
 
-fn without_output(
-    out: &mut [u8],
-    kind: Kind,
-    k: usize,
-    n: &[u64; 5],
-    row: &[u32],
-    s: &[u8],
-) -> usize {
-    match kind {
-        Kind::Codewords => codewords(out, n[0], row),
-        Kind::Listing => listings::of_row(out, n[0], row),
-        Kind::TableRow | Kind::TableValue => table(out, kind, k, n, s),
-        Kind::Total | Kind::RepeatedTotal => answered(out, k, calls::total(kind, n, s)),
-        _ => answered(out, k, calls::question(kind, n, s)),
+fn without_output(out: &mut [u8], k: usize, n: &[u64; 5], row: &[u32], s: &[u8]) -> usize {
+    if k == texts::CODEWORDS {
+        return codewords(out, n[0], row);
     }
+    if k == texts::LISTING {
+        return listings::of_row(out, n[0], row);
+    }
+    if k == texts::TABLE_ROW || k == texts::TABLE_VALUE {
+        return table(out, k, n, s);
+    }
+    answered(out, k, calls::ask(k, n, s))
 }
 
-fn with_list(out: &mut [u8], kind: Kind, r: Request, n: &[u64; 5], row: &[u32], s: &[u8]) -> usize {
-    let output = calls::output_of(kind);
-    match output {
-        Output::Bytes => into_bytes(out, kind, r, n, row, s),
-        Output::Row => into_row(out, kind, r, n, s),
-        Output::None => without_output(out, kind, r.k, n, row, s),
+fn with_list(out: &mut [u8], r: Request, n: &[u64; 5], row: &[u32], s: &[u8]) -> usize {
+    if calls::writes_bytes(r.k) {
+        return into_bytes(out, r, n, row, s);
     }
-}
-
-fn most(output: Output) -> u64 {
-    match output {
-        Output::Bytes => MOST_BYTES as u64,
-        _ => MOST_NUMBERS as u64,
+    if calls::writes_row(r.k) {
+        return into_row(out, r, n[0], s);
     }
+    without_output(out, r.k, n, row, s)
 }
 
 // A room that is named, where there is an output and it may be so large; else more than any.
-fn exactly(output: Output, n: u64) -> usize {
-    let Output::None = output else {
-        return if n <= most(output) {
-            n as usize
-        } else {
-            usize::MAX
-        };
-    };
+fn exactly(k: usize, n: u64) -> usize {
+    if calls::writes_bytes(k) && n <= MOST_BYTES as u64 {
+        return n as usize;
+    }
+    if calls::writes_row(k) && n <= MOST_NUMBERS as u64 {
+        return n as usize;
+    }
     usize::MAX
 }
 
-fn enough(kind: Kind, len: usize) -> usize {
-    match kind {
-        Kind::Append => wrapping_add_usize(len, APPENDED),
-        Kind::Read | Kind::TableRead => MOST_NUMBERS,
-        _ => MOST_BYTES,
+fn enough(k: usize, len: usize) -> usize {
+    if k == texts::APPEND {
+        return wrapping_add_usize(len, APPENDED);
+    }
+    if calls::writes_row(k) {
+        MOST_NUMBERS
+    } else {
+        MOST_BYTES
     }
 }
 
-fn used(kind: Kind, len: usize) -> usize {
-    match kind {
-        Kind::Append => len,
-        _ => usize::MAX,
-    }
-}
-
-// The request of so many elements.
-fn request_of(kind: Kind, k: usize, room: Room, len: usize) -> Request {
+// The request of a line of the help on so many elements.
+fn request_of(k: usize, room: Room, len: usize) -> Request {
     match room {
         Room::Enough => Request {
             k,
-            whole: false,
-            size: enough(kind, len),
+            size: enough(k, len),
             used: len,
+            whole: false,
         },
         Room::Exactly(n) => Request {
             k,
-            whole: true,
-            size: exactly(calls::output_of(kind), n),
+            size: exactly(k, n),
             used: len,
+            whole: true,
         },
         Room::Used(n) => Request {
             k,
-            whole: true,
-            size: used(kind, len),
+            size: if k == texts::APPEND { len } else { usize::MAX },
             used: n as usize,
+            whole: true,
         },
     }
 }
 
 // The row or the bytes from a place of the line on.
-fn listed(
-    out: &mut [u8],
-    kind: Kind,
-    k: usize,
-    room: Room,
-    n: &[u64; 5],
-    line: &[u8],
-    at: usize,
-    hexadecimal: bool,
-) -> usize {
+fn listed(out: &mut [u8], k: usize, room: Room, n: &[u64; 5], line: &[u8], at: usize) -> usize {
     let mut list = [0u32; MOST_BYTES];
     let mut s = [0u8; MOST_BYTES];
-    let Found::Count(count) = words::elements(hexadecimal, line, at, &mut list) else {
+    let has_row = calls::has_row(k);
+    let Found::Count(count) = words::elements(!has_row, line, at, &mut list) else {
         return 0;
     };
     words::narrowed(&list, &mut s);
-    let numbers = if hexadecimal { 0 } else { count };
-    let bytes = if hexadecimal { count } else { 0 };
-    let r = request_of(kind, k, room, count);
+    let numbers = if has_row { count } else { 0 };
+    let bytes = if has_row { 0 } else { count };
+    let r = request_of(k, room, count);
     if numbers > MOST_BYTES {
         return 0;
     }
@@ -344,7 +305,7 @@ fn listed(
     if r.size > MOST_BYTES + APPENDED {
         return 0;
     }
-    with_list(out, kind, r, n, &list[0..numbers], &s[0..bytes])
+    with_list(out, r, n, &list[0..numbers], &s[0..bytes])
 }
 
 fn is_named(room: Room) -> bool {
@@ -355,8 +316,8 @@ fn is_named(room: Room) -> bool {
 }
 
 // A request without a list: a text, which stands behind the blank at a place, or its name alone.
-fn unlisted(out: &mut [u8], kind: Kind, times: u64, line: &[u8], at: usize) -> usize {
-    if let Kind::ListingText = kind {
+fn unlisted(out: &mut [u8], k: usize, times: u64, line: &[u8], at: usize) -> usize {
+    if k == texts::LISTING_TEXT {
         let from = if at < line.len() { at + 1 } else { line.len() };
         if from > line.len() {
             return 0;
@@ -372,8 +333,7 @@ fn unlisted(out: &mut [u8], kind: Kind, times: u64, line: &[u8], at: usize) -> u
 
 // The answer to the request of a line of the help, whose name ends at a place; 0 where the line has another form.
 fn requested(out: &mut [u8], k: usize, room: Room, line: &[u8], at: usize) -> usize {
-    let kind = calls::kind_of(k);
-    let numbers = calls::numbers_of(kind);
+    let numbers = calls::numbers_of(k);
     let mut n = [0u64; 5];
     if numbers > 5 {
         return 0;
@@ -381,19 +341,16 @@ fn requested(out: &mut [u8], k: usize, room: Room, line: &[u8], at: usize) -> us
     let Found::Count(at) = words::arguments(line, at, &mut n[0..numbers]) else {
         return 0;
     };
-    if !calls::is_fit(kind, &n) {
+    if !calls::is_fit(k, &n) {
         return 0;
     }
-    let tail = calls::tail_of(kind);
-    match tail {
-        Tail::Row => listed(out, kind, k, room, &n, line, at, false),
-        Tail::Bytes => listed(out, kind, k, room, &n, line, at, true),
-        Tail::Other => if is_named(room) {
-            0
-        } else {
-            unlisted(out, kind, n[0], line, at)
-        },
+    if !calls::has_no_list(k) {
+        return listed(out, k, room, &n, line, at);
     }
+    if is_named(room) {
+        return 0;
+    }
+    unlisted(out, k, n[0], line, at)
 }
 
 // The answer to the request that begins behind a place.

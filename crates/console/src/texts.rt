@@ -71,6 +71,45 @@ the number stands in the row fewer times\n\
 a line of the input has another form, or there is none\n\
 the repeats are not 1 to 10000\n";
 
+// The lines of the help.
+pub const CODEWORDS: usize = 1;
+
+pub const WRITE: usize = 2;
+
+pub const READ: usize = 3;
+
+pub const TABLE_READ: usize = 4;
+
+pub const TABLE_READ_BYTES: usize = 5;
+
+pub const APPEND: usize = 6;
+
+pub const TOTAL: usize = 7;
+
+pub const REPEATED_TOTAL: usize = 8;
+
+pub const BUILD: usize = 9;
+
+pub const EXTRACT: usize = 10;
+
+pub const RANK: usize = 11;
+
+pub const SELECT: usize = 12;
+
+pub const LISTING: usize = 13;
+
+pub const LISTING_TEXT: usize = 14;
+
+pub const TABLE_ROW: usize = 15;
+
+pub const TABLE_VALUE: usize = 16;
+
+pub const HELP_ITSELF: usize = 17;
+
+pub const ROOM: usize = 18;
+
+pub const USED: usize = 19;
+
 // Where line k of a table begins, from 0; its length where there is no such line.
 fn start(table: &[u8], k: usize) -> usize {
     let mut left = k;
@@ -173,12 +212,8 @@ fn named(name: &[u8], from: usize, to: usize) -> usize {
 }
 
 pub fn request_of(name: &[u8]) -> usize {
-    named(name, 1, 18)
+    named(name, CODEWORDS, ROOM)
 }
-
-pub const ROOM: usize = 18;
-
-pub const USED: usize = 19;
 
 pub fn prefix_of(name: &[u8]) -> usize {
     named(name, ROOM, USED + 1)
