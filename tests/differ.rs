@@ -57,14 +57,19 @@ fn round(border: &mut Border, ledger: &mut Ledger, seed: u64) {
     }
 }
 
-/// What does not depend on a seed.
-fn fixed(border: &mut Border, ledger: &mut Ledger) {
+/// What does not depend on a seed: of the codec, and of the index and the listing.
+fn fixed_codec(border: &mut Border, ledger: &mut Ledger) {
     ledger.begin(0);
     let mut random = Random::new(0);
     let mut codec = Codec { border, ledger, random: &mut random };
     codec.every();
     codec.limits();
     codec.words();
+}
+
+fn fixed_index(border: &mut Border, ledger: &mut Ledger) {
+    ledger.begin(0);
+    let mut random = Random::new(0);
     let mut indexing = Indexing { border, ledger, random: &mut random };
     indexing.small_rows();
     indexing.small_strings();
@@ -90,10 +95,20 @@ fn last_seed() -> u64 {
 fn main() {
     let seed = last_seed();
     println!("tests/differ: the seed of this run is {seed}");
+    // two threads, each on buffers of its own
+    let beside = std::thread::Builder::new().stack_size(8 << 20).spawn(|| {
+        let (mut border, mut ledger) = (Border::new(), Ledger::new());
+        fixed_codec(&mut border, &mut ledger);
+        ledger
+    });
     let (mut border, mut ledger) = (Border::new(), Ledger::new());
-    fixed(&mut border, &mut ledger);
+    fixed_index(&mut border, &mut ledger);
     for seed in [1, 2, 3, seed] {
         round(&mut border, &mut ledger, seed);
+    }
+    match beside.map(|thread| thread.join()) {
+        Ok(Ok(other)) => ledger.add(&other),
+        _ => std::process::exit(1),
     }
     if !ledger.end() {
         std::process::exit(1);

@@ -3,10 +3,10 @@
 //! Each buffer lies between guard bytes, and every other one ends right before memory that may not be touched. What a call leaves is copied out; a guard byte
 //! or an input that has changed is told with it.
 
+use std::cell::Cell;
 use std::fmt::Write;
 use std::mem::size_of;
 use std::os::raw::{c_int, c_long, c_void};
-use std::sync::atomic::{AtomicU64, Ordering};
 
 // a slice of the library is a pointer and a length
 extern "C" {
@@ -118,9 +118,11 @@ impl<T: Plain> Lent<T> {
 
 // ---- Touching other memory ----
 
-/// The seed, and the last case that went well, for a message where nothing else can be said any more.
-pub static SEED: AtomicU64 = AtomicU64::new(0);
-pub static CASE: AtomicU64 = AtomicU64::new(0);
+thread_local! {
+    /// The seed, and the last case that went well, for a message where nothing else can be said any more.
+    pub static SEED: Cell<u64> = const { Cell::new(0) };
+    pub static CASE: Cell<u64> = const { Cell::new(0) };
+}
 
 /// Bytes to write a message to, without asking for memory.
 struct Message {
@@ -139,7 +141,7 @@ impl Write for Message {
 
 extern "C" fn touched(_: c_int) {
     let mut message = Message { bytes: [0; 256], len: 0 };
-    let (seed, case) = (SEED.load(Ordering::Relaxed), CASE.load(Ordering::Relaxed));
+    let (seed, case) = (SEED.with(Cell::get), CASE.with(Cell::get));
     let _ = writeln!(message, "\ntests/differ: FAILED: memory outside of the lent buffers was touched: seed {seed}, after case {case}");
     unsafe {
         write(1, message.bytes.as_ptr() as *const c_void, message.len);

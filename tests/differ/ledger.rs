@@ -1,7 +1,6 @@
 //! What was tried, what came of it, and what is said where the library and the model differ.
 
 use std::fmt::Debug;
-use std::sync::atomic::Ordering;
 
 use crate::border::{Called, Told, CASE, SEED};
 
@@ -49,7 +48,7 @@ impl Ledger {
     pub fn begin(&mut self, seed: u64) {
         self.seed = seed;
         self.case = 0;
-        SEED.store(seed, Ordering::Relaxed);
+        SEED.with(|kept| kept.set(seed));
     }
 
     /// Holds what a call left to what the model tells, and to its output. The arguments are told only where there is a difference.
@@ -63,7 +62,7 @@ impl Ledger {
         arguments: impl Fn() -> String,
     ) {
         self.case += 1;
-        CASE.store(self.case, Ordering::Relaxed);
+        CASE.with(|kept| kept.set(self.case));
         if let Some(fault) = called.fault {
             fail(operation, self, fault, &arguments(), &[]);
         }
@@ -90,6 +89,15 @@ impl Ledger {
         if one != other {
             let sides = [("one", format!("{one:?}")), ("other", format!("{other:?}"))];
             fail(what, self, "not the same", &arguments(), &sides);
+        }
+    }
+
+    /// What another ledger has counted, too.
+    pub fn add(&mut self, other: &Ledger) {
+        for (counts, more) in self.counts.iter_mut().zip(&other.counts) {
+            for (count, more) in counts.iter_mut().zip(more) {
+                *count += more;
+            }
         }
     }
 

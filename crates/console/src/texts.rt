@@ -194,7 +194,8 @@ pub fn results(out: &mut [u8], k: usize, list: &[u64]) -> usize {
 // The help without its last line feed, which follows every answer.
 pub fn help(out: &mut [u8]) -> usize {
     let table = HELP;
-    say::text(out, 0, &table[0..1914])
+    let at = say::text(out, 0, &table);
+    if at == 0 { 0 } else { at - 1 }
 }
 
 // The line of the help, from one up to but without another, that a name begins; 0 where there is none.
