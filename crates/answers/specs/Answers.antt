@@ -1,7 +1,7 @@
 -- What a call answers (paper 01, "When a call says no") as five numbers.
 use mathlib.Core.List.{List, [], _∷_}
 use Prim.Native.Nat.{ℕ}
-use Rattle.fibonacci.specs.Calls.{Outcome, accepted, andThen, answerNumber, answerPlace, answerResults}
+use Rattle.calls.specs.Calls.{Outcome, accepted, andThen, answerNumber, answerPlace, answerResults}
 use Rattle.answers.specs.declared.Answer.{Answer}
 
 -- The answer number, the place, and three results, which are zeros after a refusal

@@ -1,202 +1,147 @@
--- What appending answers and leaves behind, check by check.
-use mathlib.Core.Path.{_≡_, refl, sym, ap, _∙_}
-use mathlib.Core.Bool.{Bool, true, false, _&&_, and-false}
+-- What appending answers and leaves behind.
+use mathlib.Core.Path.{_≡_, refl, sym, ap, ap₂, _∙_}
+use mathlib.Core.Bool.{Bool, true, false, not}
 use mathlib.Core.List.{List, [], _∷_, _++_}
-use Prim.Native.Nat.{ℕ, zero, suc, _+_, _*_, _≤_, _<_}
+use Prim.Native.Nat.{ℕ, suc, _+_, _*_, _≤_, _<_}
 use native.Mathlib.Omega.{arith}
-use native.Mathlib.Decide.{decLe}
-use lib.Dec.{eqb, eqb·suc-zero}
+use lib.Dec.{leb, ltb}
 use lib.ListN.{length, take, drop, length-append}
 use lib.Seq.{length-take-le, take-append-seam, take-take}
-use borrow.Author.Tests.{le-leb, lt-leb, lt-ltb, le-ltb}
+use borrow.Author.Tests.{le-leb, lt-leb, lt-ltb, le-ltb, ltb-false, leb-false, not-false}
 use Rattle.bits.specs.Bits.{Bytes, byteCount, unpack, pack, putAt}
 use Rattle.bits.proofs.Bytes.{unpack-length, unpack-take}
 use Rattle.bits.proofs.Packing.{pack-length}
 use Rattle.bits.proofs.Put.{put-packed}
-use Rattle.fibonacci.specs.Code.{size, codeword}
+use Rattle.fibonacci.specs.Code.{codeword}
 use Rattle.fibonacci.specs.Encoding.{rowBits, encoding, rest, parse, numbers}
-use Rattle.fibonacci.specs.Calls.{Outcome, accepted, refused, answerNumber, buffer, isOrder, isNumber, largest, longest, mostBytes}
-use Rattle.fibonacci.proofs.Checks.{is-order, number-is, refused-same}
 use Rattle.fibonacci.proofs.Rows.{numbers-bits}
-use Rattle.reading.specs.Reading.{contents, decode}
-use Rattle.reading.proofs.Decoding.{decode-long, decode-contents, decode-is}
-use Rattle.codewords.proofs.Codewords.{stem-long}
+use Rattle.calls.specs.declared.Refusal.{Refusal}
+use Rattle.calls.specs.declared.Refusal.the-variants.{BadOrder, PastBuffer, BadNumber, FullRow, NoRoom}
+use Rattle.calls.specs.Calls.{Outcome, accepted, refused, buffer}
+use Rattle.calls.specs.Limits.{isOrder, Order, isNumber, largest, longest, mostBytes}
+use Rattle.calls.specs.Reading.{decode}
+use Rattle.calls.proofs.Checks.{order-is, is-order, check-passed, then-passed, accepted-one}
+use Rattle.reading.specs.Reading.{fibonacci}
+use Rattle.reading.proofs.Decoding.{decode-is}
 use Rattle.codeword_writer.proofs.Rows.{bits-snoc}
-use Rattle.appender.specs.Appending.{append, appendFull, appendInto}
+use Rattle.appender.specs.Appending.{extend, append, appendInto}
+use Rattle.appender.specs.Plans.{PlansAfter, Plans}
+use Rattle.appender.specs.declared.Planned.{Planned}
+use Rattle.appender.specs.declared.Planned.the-variants.{Put, Refused}
 
--- the call answers so, for a full row or not, and leaves the buffer as the list after
-abbrev pub Appends : ℕ → List ℕ → ℕ → ℕ → List ℕ → Outcome (ℕ × ℕ) → Bool → Type 0
-Appends m before used n after outcome full =
-    (outcome ≡ append m before used n) × (full ≡ appendFull m before used n) × (after ≡ appendInto m before used n)
+-- ## A number more after a row
 
--- where the encoding is refused, its number k is the answer, and that is not the 4 of a full row
-unread : (k : ℕ) → (eqb k 4 && eqb k 0) ≡ false
-unread zero = refl
-unread (suc k) = rw (eqb·suc-zero k) (and-false (eqb (suc k) 4))
+module _ (m room : ℕ) (row : List ℕ) (n : ℕ) where
+  -- the bytes of the longer row
+  pub longer : length (encoding m (row ++ (n ∷ []))) ≡ byteCount (length (rowBits m row) + length (codeword m n))
+  unfolding encoding
+  longer = pack-length (rowBits m (row ++ (n ∷ []))) ∙ ap byteCount (ap length (bits-snoc m row n) ∙ length-append (rowBits m row) (codeword m n))
 
--- what reading makes of the bytes in use is their contents, past the checks of order and bytes
-read-contents : (m : ℕ) (before : List ℕ) (used : ℕ) → isOrder m ≡ true → used ≤ mostBytes → used ≤ length before
-    → decode m (take used before) ≡ contents largest m (unpack (take used before))
-read-contents m before used o l i = decode-contents m (take used before) o (omega (arith, length-take-le used before i))
+  pub extend-number : isNumber largest n ≡ false → extend m room row n ≡ refused (BadNumber 0)
+  unfolding extend
+  extend-number f = rw f refl
+
+  module _ (legal : isNumber largest n ≡ true) where
+    pub extend-full : longest ≤ length row → extend m room row n ≡ refused FullRow
+    unfolding extend
+    extend-full h = rw (legal, le-leb longest (length row) h) refl
+
+    module _ (less : length row < longest) where
+      pub extend-room : room < length (encoding m (row ++ (n ∷ []))) → extend m room row n ≡ refused NoRoom
+      unfolding extend
+      extend-room h = rw (legal, lt-leb longest (length row) less, lt-ltb room _ h) refl
+
+      pub extend-fits : length (encoding m (row ++ (n ∷ []))) ≤ room → extend m room row n ≡ accepted (length (encoding m (row ++ (n ∷ []))), suc (length row))
+      unfolding extend
+      extend-fits h = rw (legal, lt-leb longest (length row) less, le-ltb room _ h) refl
+
+  pub extend-is : (bytes count : ℕ) → extend m room row n ≡ accepted (bytes, count)
+      → (length (encoding m (row ++ (n ∷ []))) ≤ room) × (bytes ≡ length (encoding m (row ++ (n ∷ []))))
+  unfolding extend
+  extend-is bytes count e =
+      let p3 = check-passed (BadNumber 0) (not (isNumber largest n)) _ _ e in
+      let p4 = check-passed FullRow (leb longest (length row)) _ _ (p3 .1) in
+      let p5 = check-passed NoRoom (ltb room (length (encoding m (row ++ (n ∷ []))))) _ _ (p4 .1) in
+      (ltb-false room _ (p5 .0), sym (ap (λ (x : ℕ × ℕ). x .0) (accepted-one (p5 .1))))
+
+-- ## A number more in a buffer
+
+-- the bits of a row begin those that it is read from
+row-begins : (m : ℕ) (s : List ℕ) → 1 ≤ m → rowBits m (numbers m (unpack s)) ++ rest (parse m (unpack s)) ≡ unpack s
+row-begins m s p = numbers-bits m (unpack s) p
+
+row-bits : (m : ℕ) (s : List ℕ) → 1 ≤ m → length (rowBits m (numbers m (unpack s))) ≤ 8 * length s
+row-bits m s p =
+    omega (arith, ap length (row-begins m s p), length-append (rowBits m (numbers m (unpack s))) (rest (parse m (unpack s))), unpack-length s)
+
+pub read-bits : (m : ℕ) (s row : List ℕ) → 1 ≤ m → decode (fibonacci m) largest s ≡ accepted row → length (rowBits m row) ≤ 8 * mostBytes
+read-bits m s row p e =
+    let d = decode-is m largest s row e in
+    omega (arith, ap (λ (l : List ℕ). length (rowBits m l)) (d .is), row-bits m s p, d .bytes)
 
 module _ (m : ℕ) (before : List ℕ) (used n : ℕ) where
-  answer : (outcome : Outcome (ℕ × ℕ)) → append m before used n ≡ outcome
-      → Appends m before used n (buffer outcome (encoding m (numbers m (unpack (take used before)) ++ (n ∷ []))) before) outcome
-      (eqb (answerNumber outcome) 4 && eqb (answerNumber (decode m (take used before))) 0)
-  unfolding appendFull appendInto
-  answer outcome e = (sym e, rw e, rw e)
-
-  -- ## The checks of order and bytes
-
-  pub append-order : isOrder m ≡ false → Appends m before used n before (refused 1 0) false
+  pub append-order : isOrder m ≡ false → append m before used n ≡ refused BadOrder
   unfolding append
-  append-order o = answer (refused 1 0) (rw o)
+  append-order o = rw o refl
 
-  append-long : isOrder m ≡ true → mostBytes < used → append m before used n ≡ refused 2 0
-  unfolding append
-  append-long o h = rw (o, lt-ltb mostBytes used h)
-
-  pub append-past : isOrder m ≡ true → length before < used → Appends m before used n before (refused 2 0) false
-  unfolding append
-  append-past o h =
-      answer (refused 2 0) (elim (decLe used mostBytes) [
-        | yes l ↦ rw (o, le-ltb mostBytes used l, lt-ltb (length before) used h)
-        | no l ↦ append-long o (omega arith)
-      ])
-
-  -- the encoding is refused; where it is too long, that is what its own bytes say
-  pub append-unread : isOrder m ≡ true → used ≤ length before → (k p : ℕ) → decode m (take used before) ≡ refused k p → Appends m before used n before (refused k p) false
-  unfolding append
-  append-unread o i k p e =
-      rw (e, unread k) at (answer (refused k p) (elim (decLe used mostBytes) [
-        | yes l ↦ rw (o, le-ltb mostBytes used l, le-ltb (length before) used i, sym (read-contents m before used o l i) ∙ e)
-        | no l ↦
-            append-long o (omega arith)
-            ∙ refused-same (sym (decode-long m (take used before) o (omega (arith, length-take-le used before i))) ∙ e)
-      ]))
-
--- the order and the bytes in use are passed
-pub record Given (m : ℕ) (before : List ℕ) (used : ℕ) : Type 0 where
-  pub order : isOrder m ≡ true
-  pub bytes : used ≤ mostBytes
-  pub inside : used ≤ length before
-
--- as they are where the encoding is read
-pub given-read : (m : ℕ) (before : List ℕ) (used : ℕ) (row : List ℕ) → used ≤ length before → decode m (take used before) ≡ accepted row → Given m before used
-given-read m before used row i e =
-    let d = decode-is m (take used before) row e in
-    record { order = is-order m (d .order); bytes = omega (arith, d .bytes, length-take-le used before i); inside = i }
-
--- ## The checks of the number and of the room
-
-module _ (m : ℕ) (before : List ℕ) (used n : ℕ) (g : Given m before used) where
-  module _ (row : List ℕ) (e : decode m (take used before) ≡ accepted row) where
-    held : contents largest m (unpack (take used before)) ≡ accepted row
-    held = sym (read-contents m before used (g .order) (g .bytes) (g .inside)) ∙ e
-
-    pub append-number : isNumber largest n ≡ false → Appends m before used n before (refused 3 0) false
+  module _ (o : isOrder m ≡ true) where
+    pub append-past : length before < used → append m before used n ≡ refused PastBuffer
     unfolding append
-    append-number f = answer m before used n (refused 3 0) (rw (g .order, le-ltb mostBytes used (g .bytes), le-ltb (length before) used (g .inside), held, f) refl)
+    append-past h = rw (o, lt-ltb (length before) used h) refl
 
-    pub append-full : isNumber largest n ≡ true → length row ≡ longest → Appends m before used n before (refused 4 0) true
+    module _ (i : used ≤ length before) where
+      pub append-unread : (r : Refusal) → decode (fibonacci m) largest (take used before) ≡ refused r → append m before used n ≡ refused r
+      unfolding append
+      append-unread r e = rw (o, le-ltb (length before) used i, e) refl
+
+      pub append-read : (row : List ℕ) → decode (fibonacci m) largest (take used before) ≡ accepted row → append m before used n ≡ extend m (length before) row n
+      unfolding append
+      append-read row e = rw (o, le-ltb (length before) used i, e) refl
+
+  -- ## What it leaves behind
+
+  pub append-refused : (r : Refusal) → append m before used n ≡ refused r → before ≡ appendInto m before used n
+  unfolding appendInto
+  append-refused r e = rw e refl
+
+  module _ (bytes count : ℕ) (e : append m before used n ≡ accepted (bytes, count)) where
+    abbrev s : List ℕ
+    s = take used before
+
+    abbrev row : List ℕ
+    row = numbers m (unpack s)
+
+    unfolded : Order m × (used ≤ length before) × (extend m (length before) row n ≡ accepted (bytes, count))
     unfolding append
-    append-full legal f = rw e at (answer m before used n (refused 4 0) (rw (g .order, le-ltb mostBytes used (g .bytes), le-ltb (length before) used (g .inside), held, legal, le-leb longest (length row) (omega arith)) refl))
+    unfolded =
+        let p1 = check-passed BadOrder (not (isOrder m)) _ _ e in
+        let p2 = check-passed PastBuffer (ltb (length before) used) _ _ (p1 .1) in
+        let t = then-passed (decode (fibonacci m) largest s) _ _ (p2 .1) in
+        (order-is m (not-false _ (p1 .0)), ltb-false (length before) used (p2 .0), rw (decode-is m largest s (t .0) (t .1) .is) at (t .2))
 
-    -- the bytes of the longer row
-    longer : length (encoding m (row ++ (n ∷ []))) ≡ byteCount (length (rowBits m row) + length (codeword m n))
-    unfolding encoding
-    longer =
-        pack-length (rowBits m (row ++ (n ∷ [])))
-        ∙ ap byteCount (ap length (bits-snoc m row n) ∙ length-append (rowBits m row) (codeword m n))
-
-    -- the bits of the row begin those in use
-    whole : rowBits m row ++ rest (parse m (unpack (take used before))) ≡ unpack (take used before)
-    whole =
-        let d = decode-is m (take used before) row e in
-        rw (d .is) (numbers-bits m (unpack (take used before)) (omega (arith, d .order)))
-
-    pub append-bits : length (rowBits m row) ≤ 8 * used
-    append-bits =
-        omega (
-          arith,
-          ap length whole,
-          length-append (rowBits m row) (rest (parse m (unpack (take used before)))),
-          unpack-length (take used before),
-          length-take-le used before (g .inside),
-        )
+    bits-used : length (rowBits m row) ≤ 8 * used
+    bits-used = omega (arith, row-bits m s (omega (arith, unfolded .0)), length-take-le used before (unfolded .1))
 
     begin : take (length (rowBits m row)) (unpack before) ≡ rowBits m row
     begin =
-        sym (take-take (length (rowBits m row)) (8 * used) (unpack before) append-bits)
-        ∙ ap (take (length (rowBits m row))) (sym (unpack-take before used) ∙ sym whole)
-        ∙ take-append-seam (rowBits m row) (rest (parse m (unpack (take used before))))
+        sym (take-take (length (rowBits m row)) (8 * used) (unpack before) bits-used) ∙ ap (take (length (rowBits m row))) (sym (unpack-take before used) ∙ sym (row-begins m s (omega (arith, unfolded .0))))
+        ∙ take-append-seam (rowBits m row) (rest (parse m (unpack s)))
 
-    module _ (legal : isNumber largest n ≡ true) (less : length row < longest) where
-      pub append-room : length before < byteCount (length (rowBits m row) + length (codeword m n)) → Appends m before used n before (refused 5 0) false
-      unfolding append
-      append-room h =
-          answer m before used n (refused 5 0)
-          (rw (g .order, le-ltb mostBytes used (g .bytes), le-ltb (length before) used (g .inside), held, legal, lt-leb longest (length row) less, longer, lt-ltb (length before) _ h) refl)
+    -- there is room for the codeword
+    pub append-room : byteCount (length (rowBits m row) + length (codeword m n)) ≤ length before
+    append-room = omega (arith, longer m (length before) row n, extend-is m (length before) row n bytes count (unfolded .2) .0)
 
-      fits : byteCount (length (rowBits m row) + length (codeword m n)) ≤ length before
-          → append m before used n ≡ accepted (byteCount (length (rowBits m row) + length (codeword m n)), suc (length row))
-      unfolding append
-      fits h = rw (g .order, le-ltb mostBytes used (g .bytes), le-ltb (length before) used (g .inside), held, legal, lt-leb longest (length row) less, longer, le-ltb (length before) _ h) refl
+    pub append-put : (after : List ℕ) → Bytes before → Bytes after → unpack after ≡ putAt (length (rowBits m row)) (codeword m n) (unpack before)
+        → after ≡ appendInto m before used n
+    unfolding appendInto encoding
+    append-put after hb ha u =
+        let bits : take (length (rowBits m row)) (unpack before) ++ codeword m n ≡ rowBits m (row ++ (n ∷ [])) =
+        ap (λ (l : List Bool). l ++ codeword m n) begin ∙ sym (bits-snoc m row n) in
+        rw e (put-packed before after (length (rowBits m row)) (codeword m n) (omega (arith, bits-used, unfolded .1)) hb ha u
+        ∙ ap (λ (b : List Bool). pack b ++ drop (length (pack b)) before) bits)
 
-      -- the same, by the bytes of the longer row
-      pub append-fits : length (encoding m (row ++ (n ∷ []))) ≤ length before
-          → append m before used n ≡ accepted (length (encoding m (row ++ (n ∷ []))), suc (length row))
-      append-fits h = fits (omega (arith, longer)) ∙ ap (λ (k : ℕ). accepted (k, suc (length row))) (sym longer)
-
-      pub append-done : (after : List ℕ) → byteCount (length (rowBits m row) + length (codeword m n)) ≤ length before → Bytes before → Bytes after
-          → unpack after ≡ putAt (length (rowBits m row)) (codeword m n) (unpack before)
-          → Appends m before used n after (accepted (byteCount (length (rowBits m row) + length (codeword m n)), suc (length row))) false
-      unfolding encoding
-      append-done after h bb ba p =
-          let a = answer m before used n (accepted (byteCount (length (rowBits m row) + length (codeword m n)), suc (length row))) (fits h) in
-          let bits : take (length (rowBits m row)) (unpack before) ++ codeword m n ≡ rowBits m (row ++ (n ∷ [])) =
-          ap (λ (l : List Bool). l ++ codeword m n) begin ∙ sym (bits-snoc m row n) in
-          let same : after ≡ encoding m (row ++ (n ∷ [])) ++ drop (length (encoding m (row ++ (n ∷ [])))) before =
-          put-packed before after (length (rowBits m row)) (codeword m n) (omega (arith, append-bits, g .inside)) bb ba p
-          ∙ ap (λ (b : List Bool). pack b ++ drop (length (pack b)) before) bits in
-          (a .0, a .1, same ∙ ap (λ (r : List ℕ). encoding m (r ++ (n ∷ [])) ++ drop (length (encoding m (r ++ (n ∷ [])))) before) (decode-is m (take used before) row e .is) ∙ a .2)
-
-      -- both, by what was found out about the room: r bytes are then in use, or 0 where they pass the buffer
-      module _ (after : List ℕ) (r bits k : ℕ) (eb : bits ≡ length (rowBits m row)) (ek : k ≡ n)
-          (inside : byteCount (bits + length (codeword m k)) ≤ length before
-          → (r ≡ byteCount (bits + length (codeword m k))) × (unpack after ≡ putAt bits (codeword m k) (unpack before)))
-          (bb : Bytes before) (ba : Bytes after) (passes : length before < byteCount (bits + length (codeword m k)) → (r ≡ 0) × (after ≡ before)) where
-        need : ℕ
-        need = byteCount (bits + length (codeword m k))
-
-        need-is : need ≡ byteCount (length (rowBits m row) + length (codeword m n))
-        unfolding need
-        need-is = rw (eb, ek) refl
-
-        need-some : 1 ≤ need
-        unfolding need
-        need-some =
-            let d = decode-is m (take used before) row e in
-            let is = number-is largest n legal in
-            omega (arith, ap (λ (x : ℕ). length (codeword m x)) ek, stem-long m n (size m n n 0) (d .order) (is .0) (is .1) refl .0, d .order)
-
-        pub append-none : r ≡ 0 → Appends m before used n after (refused 5 0) false
-        unfolding need
-        append-none z =
-            elim (decLe need (length before)) [
-              | yes h ↦ absurd (omega (arith, inside h .0, need-some))
-              | no h ↦
-                  let p = passes (omega arith) in
-                  let a = append-room (omega (arith, need-is)) in (a .0, a .1, p .1 ∙ a .2)
-            ]
-
-        pub append-some : (r ≡ 0 → ⊥) → Appends m before used n after (accepted (r, suc (length row))) false
-        unfolding need
-        append-some z =
-            elim (decLe need (length before)) [
-              | yes h ↦
-                  let f = inside h in
-                  let a = append-done after (omega (arith, need-is)) bb ba (rw (eb, ek) at (f .1)) in
-                  (ap (λ (x : ℕ). accepted (x, suc (length row))) (f .0 ∙ need-is) ∙ a .0, a .1, a .2)
-              | no h ↦ absurd (z (passes (omega arith) .0))
-            ]
+-- the plan after the row is that for the buffer
+pub plans-read : (m : ℕ) (before row : List ℕ) (used n : ℕ) (p : Planned) → append m before used n ≡ extend m (length before) row n
+    → row ≡ numbers m (unpack (take used before)) → PlansAfter m (length before) row n p → Plans m before used n p
+plans-read m before row used n (Put x) e is h = (e ∙ h .0, rw (← is) (h .1))
+plans-read m before row used n (Refused r) e is h = e ∙ h

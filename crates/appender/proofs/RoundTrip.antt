@@ -13,31 +13,30 @@ use Rattle.bits.proofs.Packing.{unpack-pack, padding-below, pack-length, pack-b
 use Rattle.bits.proofs.Count.{zeros-none, none-zeros}
 use Rattle.fibonacci.specs.Code.{sum}
 use Rattle.fibonacci.specs.Encoding.{rowBits, encoding, rest, parse}
-use Rattle.fibonacci.specs.Tables.{Order}
-use Rattle.fibonacci.specs.Calls.{accepted, isNumber, Legal, largest, longest}
-use Rattle.fibonacci.proofs.Checks.{is-order, is-number, positive}
+use Rattle.calls.proofs.Checks.{is-order, is-number, positive}
+use Rattle.calls.specs.Calls.{accepted}
+use Rattle.calls.specs.Limits.{Order, isNumber, Legal, largest, longest}
+use Rattle.calls.specs.Reading.{decode}
 use Rattle.fibonacci.proofs.Rows.{bits-append, numbers-bits, encoding-parse, encoding-read}
-use Rattle.reading.specs.Reading.{decode, read, readInto}
+use Rattle.reading.specs.Reading.{fibonacci, read, readInto}
 use Rattle.reading.proofs.Decoding.{decode-is, decode-accepts, read-is, read-row}
 use Rattle.totals.specs.Totals.{total, repeatedTotal}
-use Rattle.totals.proofs.Totals.{total-sum, repeated-sum}
 use Rattle.encoder.specs.Writing.{write, writeInto}
 use Rattle.codeword_writer.proofs.Rows.{bits-few}
 use Rattle.encoder.proofs.Writing.{Writable, write-is, write-accepts}
 use Rattle.appender.specs.Appending.{append, appendInto}
 use Rattle.appender.specs.RoundTrip.{RoundTrip, appendAll}
-use Rattle.appender.proofs.Appending.{Given, append-fits}
+use Rattle.appender.proofs.Appending.{extend-fits, append-read}
 
 -- ## Reading what was written
 
-pub decode-encoding : (m : ℕ) (row : List ℕ) → Order m → length row ≤ longest → Legal largest row → decode m (encoding m row) ≡ accepted row
+pub decode-encoding : (m : ℕ) (row : List ℕ) → Order m → length row ≤ longest → Legal largest row → decode (fibonacci m) largest (encoding m row) ≡ accepted row
 unfolding encoding
 decode-encoding m row o c a =
     let parse-is = encoding-parse m row (omega arith) (positive largest row a) in
     let rest-is : rest (parse m (unpack (encoding m row))) ≡ replicate (padding (length (rowBits m row))) false = ap rest parse-is in
-    decode-accepts m (encoding m row) row
+    decode-accepts m largest (encoding m row) row
     (record {
-      order = o;
       bytes = omega (arith, pack-length (rowBits m row), bits-few m row o a);
       is = sym (encoding-read m row (omega arith) (positive largest row a));
       legal = a;
@@ -48,12 +47,12 @@ decode-encoding m row o c a =
 
 -- ## Writing what was read
 
-pub decoded-encoding : (m : ℕ) (s row : List ℕ) → Bytes s → decode m s ≡ accepted row → s ≡ encoding m row
+pub decoded-encoding : (m : ℕ) (s row : List ℕ) → Order m → Bytes s → decode (fibonacci m) largest s ≡ accepted row → s ≡ encoding m row
 unfolding encoding padding
-decoded-encoding m s row b e =
-    let d = decode-is m s row e in
+decoded-encoding m s row o b e =
+    let d = decode-is m largest s row e in
     let r : List Bool = rest (parse m (unpack s)) in
-    let whole : rowBits m row ++ r ≡ unpack s = rw (d .is) (numbers-bits m (unpack s) (omega (arith, d .order))) in
+    let whole : rowBits m row ++ r ≡ unpack s = rw (d .is) (numbers-bits m (unpack s) (omega (arith, o))) in
     let fill : length r ≡ padding (length (rowBits m row)) =
     omega (arith, d .short, ap length whole, length-append (rowBits m row) r, unpack-length s) in
     unpack-apart s (encoding m row) b (pack-bytes (rowBits m row))
@@ -96,23 +95,15 @@ module _ (m : ℕ) (row before : List ℕ) (n : ℕ) (w : Writable m (row ++ (n 
   front-length =
       omega (arith, length-append (encoding m row) (drop used before), length-drop used before, used-less, w .fits)
 
-  front-decode : decode m (take used (front m row before)) ≡ accepted row
+  front-decode : decode (fibonacci m) largest (take used (front m row before)) ≡ accepted row
   front-decode =
-      ap (decode m) (take-append-seam (encoding m row) (drop used before))
+      ap (decode (fibonacci m) largest) (take-append-seam (encoding m row) (drop used before))
       ∙ decode-encoding m row (w .order) (omega (arith, w .count, length-append row (n ∷ []))) (legal-begin row (n ∷ []) (w .legal))
-
-  front-given : Given m (front m row before) used
-  front-given =
-      let d = decode-is m _ row front-decode in
-      record {
-        order = is-order m (w .order);
-        bytes = omega (arith, d .bytes, ap length (take-append-seam (encoding m row) (drop used before)));
-        inside = omega (arith, front-length, used-less, w .fits);
-      }
 
   front-append : append m (front m row before) used n ≡ accepted (length (encoding m (row ++ (n ∷ []))), suc (length row))
   front-append =
-      append-fits m (front m row before) used n front-given row front-decode (legal-last row n (w .legal)) (omega (arith, w .count, length-append row (n ∷ [])))
+      append-read m (front m row before) used n (is-order m (w .order)) (omega (arith, front-length, used-less, w .fits)) row front-decode
+      ∙ extend-fits m (length (front m row before)) row n (legal-last row n (w .legal)) (omega (arith, w .count, length-append row (n ∷ [])))
       (omega (arith, front-length, w .fits))
 
   front-into : appendInto m (front m row before) used n ≡ front m (row ++ (n ∷ [])) before
@@ -124,7 +115,7 @@ module _ (m : ℕ) (row before : List ℕ) (n : ℕ) (w : Writable m (row ++ (n 
       let later : drop (length new) (front m row before) ≡ drop (length new) before =
       ap (λ (j : ℕ). drop j (front m row before)) (sym at) ∙ drop-append-add (encoding m row) (drop used before) k
       ∙ drop-drop k used before ∙ ap (λ (j : ℕ). drop j before) at in
-      rw (front-append, ← decode-is m (take used (front m row before)) row front-decode .is) (ap (λ (l : List ℕ). new ++ l) later)
+      rw (front-append, ← decode-is m largest (take used (front m row before)) row front-decode .is) (ap (λ (l : List ℕ). new ++ l) later)
 
 append-all : (m : ℕ) (row ns before : List ℕ) → Writable m (row ++ ns) (length before)
     → appendAll m (front m row before) (length (encoding m row)) (length row) ns
@@ -158,16 +149,16 @@ written-read m row before out bytes bits e l =
     let w = i .0 in
     let s : take bytes (writeInto m row before) ≡ encoding m row =
     ap₂ take (i .1) (write-into m row before w) ∙ take-append-seam (encoding m row) _ in
-    let r = read-row m (encoding m row) out row (decode-encoding m row (w .order) (w .count) (w .legal)) l in
+    let r = read-row m (encoding m row) out (is-order m (w .order)) row (decode-encoding m row (w .order) (w .count) (w .legal)) l in
     rw s (sym (r .0), sym (r .1))
 
-decoded-written : (m : ℕ) (s row before : List ℕ) → Bytes s → decode m s ≡ accepted row → length s ≤ length before
+decoded-written : (m : ℕ) (s row before : List ℕ) → Order m → Bytes s → decode (fibonacci m) largest s ≡ accepted row → length s ≤ length before
     → (write m row (length before) ≡ accepted (length s, length (rowBits m row))) × (writeInto m row before ≡ s ++ drop (length s) before)
-decoded-written m s row before b e l =
-    let d = decode-is m s row e in
-    let same : s ≡ encoding m row = decoded-encoding m s row b e in
+decoded-written m s row before o b e l =
+    let d = decode-is m largest s row e in
+    let same : s ≡ encoding m row = decoded-encoding m s row o b e in
     let w : Writable m row (length before) =
-    record { order = d .order; count = d .long; legal = d .legal; fits = omega (arith, ap length same) } in
+    record { order = o; count = d .long; legal = d .legal; fits = omega (arith, ap length same) } in
     rw same (write-accepts m row (length before) w, write-into m row before w)
 
 read-written : (m : ℕ) (s out before : List ℕ) (n : ℕ) → Bytes s → read m s (length out) ≡ accepted n → length s ≤ length before
@@ -175,9 +166,10 @@ read-written : (m : ℕ) (s out before : List ℕ) (n : ℕ) → Bytes s → rea
     (write m row (length before) ≡ accepted (length s, length (rowBits m row))) × (writeInto m row before ≡ s ++ drop (length s) before)
 read-written m s out before n b e l =
     let i = read-is m s (length out) n e in
-    let back : take n (readInto m s out) ≡ i .0 =
-    ap₂ take (i .2) (sym (read-row m s out (i .0) (i .1) (i .3) .1)) ∙ take-append-seam (i .0) _ in
-    rw back (decoded-written m s (i .0) before b (i .1) l)
+    let row = i .1 .0 in
+    let back : take n (readInto m s out) ≡ row =
+    ap₂ take (i .1 .2) (sym (read-row m s out (is-order m (i .0)) row (i .1 .1) (i .1 .3) .1)) ∙ take-append-seam row _ in
+    rw back (decoded-written m s row before (i .0) b (i .1 .1) l)
 
 appended-written : (m : ℕ) (row before : List ℕ) (bytes bits : ℕ) → write m row (length before) ≡ accepted (bytes, bits)
     → appendAll m before 0 0 row ≡ accepted (writeInto m row before, bytes, length row)
@@ -203,19 +195,17 @@ sum-same : (k n : ℕ) → sum (replicate k n) ≡ k * n
 sum-same zero n = omega arith
 sum-same (suc k) n = omega (arith, sum-same k n, suc-mul k n)
 
-decode-largest : (m : ℕ) → Order m → decode m (encoding m largestRow) ≡ accepted largestRow
+decode-largest : (m : ℕ) → Order m → decode (fibonacci m) largest (encoding m largestRow) ≡ accepted largestRow
 decode-largest m o =
     decode-encoding m largestRow o (omega (arith, length-replicate longest largest)) (legal-same longest largest (is-number largest largest (omega arith) (omega arith)))
 
 -- they are reached, and exact
 pub total-largest : (m : ℕ) → Order m → total m (encoding m largestRow) 0 longest ≡ accepted 17592186040320
+unfolding total
 total-largest m o =
     let l = length-replicate longest largest in
-    sym (total-sum m (encoding m largestRow) largestRow 0 longest (decode-largest m o) (omega arith) (omega arith))
-    ∙ ap accepted (ap sum (take-all longest largestRow (omega arith)) ∙ sum-same longest largest)
+    rw (is-order m o, decode-largest m o) (ap accepted (ap sum (take-all longest largestRow (omega arith)) ∙ sum-same longest largest))
 
 pub repeated-largest : (m : ℕ) → Order m → repeatedTotal m (encoding m largestRow) 10000 ≡ accepted 175921860403200000
-repeated-largest m o =
-    let l = length-replicate longest largest in
-    sym (repeated-sum m (encoding m largestRow) largestRow 10000 (decode-largest m o) (omega arith) (omega arith))
-    ∙ ap (λ (x : ℕ). accepted (10000 * x)) (ap sum (take-all longest largestRow (omega arith)) ∙ sum-same longest largest)
+unfolding repeatedTotal
+repeated-largest m o = rw (is-order m o, decode-largest m o) (ap (λ (x : ℕ). accepted (10000 * x)) (sum-same longest largest))

@@ -1,3 +1,3 @@
 pub mod Appending
-pub mod Answers
 pub mod RoundTrip
+pub mod Plans

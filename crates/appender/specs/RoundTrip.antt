@@ -5,7 +5,7 @@ use Prim.Native.Nat.{ℕ, _≤_}
 use lib.ListN.{length, take, drop}
 use Rattle.bits.specs.Bits.{Bytes}
 use Rattle.fibonacci.specs.Encoding.{rowBits}
-use Rattle.fibonacci.specs.Calls.{Outcome, accepted, andThen}
+use Rattle.calls.specs.Calls.{Outcome, accepted, andThen}
 use Rattle.reading.specs.Reading.{read, readInto}
 use Rattle.encoder.specs.Writing.{write, writeInto}
 use Rattle.appender.specs.Appending.{append, appendInto}

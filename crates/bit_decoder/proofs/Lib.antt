@@ -1,3 +1,1 @@
 pub mod Seeking
-pub mod Scanning
-pub mod Answering

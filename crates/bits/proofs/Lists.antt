@@ -36,10 +36,3 @@ module _ {A : Type 0} where
       let e : set (take i s ++ drop (0 + i) d) (0 + i) (getD s i z) ≡ take (suc i) s ++ drop (0 + suc i) d =
       paste-suc d 0 s i z (omega arith) h in
       rw (add-one, ← q) (simp zero-add at e)
-
-  -- one element more is stored
-  pub sets-snoc : (l : List A) (i : ℕ) (xs : List A) (x : A) → sets l i (xs ++ (x ∷ [])) ≡ set (sets l i xs) (i + length xs) x
-  sets-snoc l i [] x = ap (λ (k : ℕ). set l k x) (sym (add-zero i))
-  sets-snoc l i (y ∷ xs) x =
-      let e : suc i + length xs ≡ i + suc (length xs) = omega arith in
-      sets-snoc (set l i y) (suc i) xs x ∙ ap (λ (k : ℕ). set (sets (set l i y) (suc i) xs) k x) e

@@ -8,7 +8,7 @@ use native.Mathlib.Nat.{mul-add, add-mul, mul-zero, zero-add}
 use lib.ListN.{getD}
 use borrow.Author.Tests.{leb-true}
 use Rattle.fibonacci.specs.Code.{past, F, value}
-use Rattle.fibonacci.specs.Calls.{largest}
+use Rattle.calls.specs.Limits.{largest}
 use Rattle.fibonacci.specs.Tables.{bounded}
 use Rattle.fibonacci.proofs.Numeration.{part, F-suc, part-suc, part-zero, part-none, F-rises}
 use Rattle.fibonacci.proofs.Lookup.{values-at, bounded-is}

@@ -58,13 +58,13 @@ pub fn look_up(heads: &[u32; 768], tails: &[u32; 768], at: usize) -> Row
     Row {
         count: (head % 4) as usize,
         len: (head / 4 % 16) as usize,
-        x: fibonacci::wide(head / 64 % 512),
-        y: fibonacci::wide(head / 32768 % 256),
-        z: fibonacci::wide(head / 8388608 % 512),
+        x: calls::wide(head / 64 % 512),
+        y: calls::wide(head / 32768 % 256),
+        z: calls::wide(head / 8388608 % 512),
         second: tail % 16,
         third: tail / 16 % 4,
         left: (tail / 1024 % 16) as usize,
-        val: fibonacci::wide(tail / 16384 % 262144),
+        val: calls::wide(tail / 16384 % 262144),
         next: (tail / 256 % 4 * 256) as usize,
     }
 }
@@ -74,7 +74,7 @@ fn times(f: u32, v: u64) -> u64
     requires { ⌜ v < 512 ⌝ }
     ensures { λ r. ⌜ (r ≡ f * v) × (r < 2 ^ 41) ⌝ }
 {
-    fibonacci::wide(f) * v
+    calls::wide(f) * v
 }
 
 // What a row's bits are worth after `len` others, over whole numbers: three products. The reader keeps `len` at 37 or less, and hands over a row's values.

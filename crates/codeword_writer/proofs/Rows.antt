@@ -11,10 +11,11 @@ use Rattle.bits.specs.Bits.{byteCount, putTo, putAt}
 use Rattle.bits.proofs.Put.{Filled, filled-none, filled-more, filled-end}
 use Rattle.fibonacci.specs.Code.{size, codeword}
 use Rattle.fibonacci.specs.Encoding.{rowBits}
-use Rattle.fibonacci.specs.Calls.{Outcome, accepted, refused, isNumber, Legal, largest, checkEach}
-use Rattle.fibonacci.specs.Tables.{Order}
+use Rattle.calls.specs.declared.Refusal.the-variants.{BadNumber}
+use Rattle.calls.specs.Calls.{accepted, refused}
+use Rattle.calls.specs.Limits.{isNumber, Order, Legal, largest, checkEach}
+use Rattle.calls.proofs.Checks.{number-is, each-more, each-fault}
 use Rattle.fibonacci.proofs.Rows.{bits-append}
-use Rattle.fibonacci.proofs.Checks.{number-is}
 use Rattle.codewords.proofs.Codewords.{stem-long}
 
 -- a number more
@@ -27,15 +28,6 @@ bits-snoc m row n = bits-append m row (n ∷ []) ∙ ap (λ (b : List Bool). row
 module _ (row : List ℕ) (i n : ℕ) (h : i < length row) (e : n ≡ getD row i 0) where
   left : drop i row ≡ n ∷ drop (i + 1) row
   left = rw (add-one, e) (drop-cons row i 0 h)
-
-  each-more : {A : Type 0} (limit : ℕ) (next : Outcome A) → isNumber limit n ≡ true
-      → checkEach 3 limit i (drop i row) next ≡ checkEach 3 limit (i + 1) (drop (i + 1) row) next
-  unfolding checkEach
-  each-more limit next q = rw (left, q, add-one)
-
-  each-fault : {A : Type 0} (limit : ℕ) (next : Outcome A) → isNumber limit n ≡ false → checkEach 3 limit i (drop i row) next ≡ refused 3 i
-  unfolding checkEach
-  each-fault limit next q = rw (left, q)
 
   bits-left : (m : ℕ) → rowBits m (drop i row) ≡ codeword m n ++ rowBits m (drop (i + 1) row)
   unfolding rowBits flatten
@@ -68,28 +60,25 @@ abbrev pub Counted : ℕ → ℕ → List ℕ → ℕ → ℕ → Type 0
 Counted m limit row i bits =
     let total : ℕ = length (rowBits m row) in
     (bits ≤ 47 * i) × (bits + length (rowBits m (drop i row)) ≡ total)
-    × (checkEach 3 limit 0 row (accepted total) ≡ checkEach 3 limit i (drop i row) (accepted total))
+    × (checkEach BadNumber limit 0 row (accepted total) ≡ checkEach BadNumber limit i (drop i row) (accepted total))
 
 pub counted-none : (m limit : ℕ) (row : List ℕ) → Counted m limit row 0 0
 counted-none m limit row = (omega arith, omega arith, refl)
 
 module _ (m limit : ℕ) (row : List ℕ) (i bits : ℕ) (c : Counted m limit row i bits) where
-  pub counted-more : (n d : ℕ) → i < length row → n ≡ getD row i 0 → isNumber limit n ≡ true → limit ≤ largest → Order m → d ≡ size m n n 0
-      → Counted m limit row (i + 1) (bits + (d + m))
-  counted-more n d h e q l o s =
-      let p = number-is limit n q in
-      let long = stem-long m n d o (p .0) (omega arith) s in
-      let total : ℕ = length (rowBits m row) in (
-        omega (arith, c .0),
-        omega (arith, c .1, ap length (bits-left row i n h e m), length-append (codeword m n) (rowBits m (drop (i + 1) row))),
-        c .2 ∙ each-more row i n h e limit (accepted total) q,
-      )
+  pub counted-more : (n len : ℕ) → i < length row → n ≡ getD row i 0 → isNumber limit n ≡ true → len ≡ length (codeword m n) → len ≤ 47
+      → Counted m limit row (i + 1) (bits + len)
+  counted-more n len h e q is few = (
+    omega (arith, c .0),
+    omega (arith, c .1, ap length (bits-left row i n h e m), length-append (codeword m n) (rowBits m (drop (i + 1) row))),
+    c .2 ∙ each-more BadNumber limit row i n h e (accepted (length (rowBits m row))) q,
+  )
 
   pub counted-fault : (n : ℕ) → i < length row → n ≡ getD row i 0 → isNumber limit n ≡ false
-      → refused 3 i ≡ checkEach 3 limit 0 row (accepted (length (rowBits m row)))
-  counted-fault n h e q = sym (c .2 ∙ each-fault row i n h e limit (accepted (length (rowBits m row))) q)
+      → refused (BadNumber i) ≡ checkEach BadNumber limit 0 row (accepted (length (rowBits m row)))
+  counted-fault n h e q = sym (c .2 ∙ each-fault BadNumber limit row i n h e (accepted (length (rowBits m row))) q)
 
-  pub counted-end : length row ≤ i → accepted bits ≡ checkEach 3 limit 0 row (accepted (length (rowBits m row)))
+  pub counted-end : length row ≤ i → accepted bits ≡ checkEach BadNumber limit 0 row (accepted (length (rowBits m row)))
   unfolding checkEach
   counted-end h =
       let b : length (rowBits m row) ≡ bits = omega (arith, c .1, ap length (bits-end m i row h)) in

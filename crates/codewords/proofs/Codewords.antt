@@ -17,9 +17,9 @@ use Rattle.bits.specs.Bits.{worth, wordBits, wordOf}
 use Rattle.bits.proofs.Words.{words-cons, words-join, words-zero}
 use Rattle.bits.proofs.Packing.{fit, fit-long, bits-of-word, word-below}
 use Rattle.fibonacci.specs.Code.{valuesFrom, past, F, ones, first, size, digits, codeword}
-use Rattle.fibonacci.specs.Calls.{largest}
-use Rattle.fibonacci.specs.Tables.{Order, bounded}
-use Rattle.fibonacci.proofs.Checks.{both}
+use Rattle.calls.proofs.Checks.{both}
+use Rattle.calls.specs.Limits.{largest, Order}
+use Rattle.fibonacci.specs.Tables.{bounded}
 use Rattle.fibonacci.proofs.Numeration.{part, F-suc, part-suc, part-zero, part-none, digits-big, digits-small, digits-append, digits-length, F-rises, F-pos}
 use Rattle.fibonacci.proofs.Numbers.{first-suc, first-rises, first-pos, F-first, codeword-size}
 use Rattle.fibonacci.proofs.Lookup.{values-at, each-order, first-within, bounded-is, bounded-not}

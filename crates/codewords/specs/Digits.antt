@@ -6,6 +6,7 @@ use Prim.Native.Nat.{ℕ, suc, _+_, _-_, _^_, _<_}
 use lib.Dec.{eqb}
 use Rattle.bits.specs.Bits.{wordBits, wordOf}
 use Rattle.fibonacci.specs.Code.{valuesFrom, F, digits, codeword}
+use Rattle.fibonacci.specs.Tables.{Positions, Firsts}
 
 -- ## The guess
 
@@ -35,3 +36,9 @@ lowDigits m = valuesFrom (λ x. lowWord m (lowCount m) x) 0 64
 abbrev pub Begun : ℕ → ℕ → ℕ → ℕ → ℕ → ℕ → Type 0
 Begun m n d j left w =
     (digits m j left (wordBits (m + (d - j)) w) ≡ codeword m n) × (w < 2 ^ (m + (d - j))) × (left < F m (suc j))
+
+-- ## The tables
+
+-- What a function knows of the tables that it is lent: the order is in use, and these are its position values, its first numbers and its low digits
+abbrev pub Tables : ℕ → List ℕ → List ℕ → List ℕ → Type 0
+Tables m positions firsts low = Positions m positions × Firsts m firsts × (low ≡ lowDigits m)

@@ -2,15 +2,22 @@
 ghost use mathlib.Core.Path.{_≡_};
 ghost use Prim.Native.Nat.{_+_, _-_, _^_, _≤_, _<_, min};
 ghost use lib.Dec.{leb};
+ghost use lib.ListN.{length};
 ghost use Rattle.bits.specs.Bits.{worth, wordBits};
-ghost use Rattle.fibonacci.specs.Code.{F, first, size, codeword};
-ghost use Rattle.fibonacci.specs.Tables.{Order, tableRow};
-ghost use Rattle.fibonacci.specs.Calls.{largest};
-ghost use Rattle.codewords.specs.Digits.{rate, lowCount, lowDigits, Begun};
+ghost use Rattle.fibonacci.specs.Code.{first, size, codeword};
+ghost use Rattle.calls.specs.Limits.{Order, largest};
+ghost use Rattle.fibonacci.specs.Tables.{Positions, Firsts};
+ghost use Rattle.codewords.specs.Digits.{rate, lowCount, lowDigits, Begun, Tables};
 
 mod tables;
 
 use tables::LOW_DIGITS;
+
+// A codeword: its bits are the len low ones of a word.
+pub struct Word {
+    pub bits: u64,
+    pub len: usize,
+}
 
 // Digits of a codeword above its lowest: the word so far, with the last ones below them, and the value that is left for the lowest.
 struct High {
@@ -42,17 +49,16 @@ fn guess(order: usize, n: u64) -> usize
 
 // 1 where the first number of d bits before the last ones is at most n, else 0: a number to add, so that `stem` has no branch on n.
 fn reached(firsts: &[u32; 47], order: usize, d: usize, n: u64) -> usize
-    requires { ⌜ Order order × (now firsts ≡ tableRow (first order)) × (d < 47) × (n ≤ largest) ⌝ }
+    requires { ⌜ Firsts order (now firsts) × (d < 47) × (n ≤ largest) ⌝ }
     ensures { λ r. ⌜ (r ≡ worth (leb (first order d) n)) × (r ≤ 1) ⌝ }
 {
-    let x = fibonacci::wide(firsts[d]);
+    let x = calls::wide(firsts[d]);
     if x != 0 && x <= n { 1 } else { 0 }
 }
 
-// How many bits of the codeword of n stand before its last ones: the largest d whose first number is at most n. Writing and the row index check the order
-// and the number before.
-pub fn stem(firsts: &[u32; 47], order: usize, n: u64) -> usize
-    requires { ⌜ Order order × (now firsts ≡ tableRow (first order)) × (1 ≤ n) × (n ≤ largest) ⌝ }
+// How many bits of the codeword of n stand before its last ones: the largest d whose first number is at most n.
+fn stem(firsts: &[u32; 47], order: usize, n: u64) -> usize
+    requires { ⌜ Firsts order (now firsts) × (1 ≤ n) × (n ≤ largest) ⌝ }
     ensures { λ r. ⌜ r ≡ size order n n 0 ⌝ }
 {
     let d = guess(order, n);
@@ -62,14 +68,14 @@ pub fn stem(firsts: &[u32; 47], order: usize, n: u64) -> usize
     d + one + two + three
 }
 
-// How many of the lowest digits `word` looks up at once.
+// How many of the lowest digits `word_of` looks up at once.
 fn low_count(order: usize) -> usize
     ensures { λ r. ⌜ r ≡ lowCount order ⌝ }
 {
     if order == 2 { 8 } else { 6 }
 }
 
-// The lowest digits of the numbers below 64: a row that a caller takes once and hands to `word`. Every operation checks its order before.
+// The lowest digits of the numbers below 64: a row that a caller takes once and hands to `coded`. Every operation checks its order before.
 pub fn low_digits(order: usize) -> [u8; 64]
     requires { ⌜ Order order ⌝ }
     ensures { λ r. ⌜ r ≡ lowDigits order ⌝ }
@@ -87,7 +93,7 @@ fn digit(f: u64, above: u64) -> u64
     (above - f) >> 32
 }
 
-// The digits from position d down to the one above `low`, none where d is no more than that, before the last ones. `word` hands on what it is called with.
+// The digits from position d down to the one above `low`, none where d is no more than that, before the last ones. `word_of` hands on what it is called with.
 fn high_digits(
     positions: &[u32; 47],
     firsts: &[u32; 47],
@@ -96,7 +102,7 @@ fn high_digits(
     d: usize,
     low: usize,
 ) -> High
-    requires { ⌜ Order order × (now positions ≡ tableRow (F order)) × (now firsts ≡ tableRow (first order)) × (1 ≤ n) × (n ≤ largest) × (d ≡ size order n n 0) ⌝ }
+    requires { ⌜ Positions order (now positions) × Firsts order (now firsts) × (1 ≤ n) × (n ≤ largest) × (d ≡ size order n n 0) ⌝ }
     ensures { λ r. ⌜ Begun order n d (min d low) (r .left) (r .word) ⌝ }
 {
     let mut w: u64 = (1 << order) - 1;
@@ -114,8 +120,7 @@ fn high_digits(
 }
 
 // The codeword of n as a word, where d of its bits stand before its last ones: those ones, and in front of them the digits, the highest first.
-// Writing and the row index check the order and the number before, and have d from `stem` and the tables from above.
-pub fn word(
+fn word_of(
     positions: &[u32; 47],
     firsts: &[u32; 47],
     low: &[u8; 64],
@@ -123,7 +128,7 @@ pub fn word(
     n: u64,
     d: usize,
 ) -> u64
-    requires { ⌜ Order order × (now positions ≡ tableRow (F order)) × (now firsts ≡ tableRow (first order)) × (now low ≡ lowDigits order) × (1 ≤ n) × (n ≤ largest) × (d ≡ size order n n 0) ⌝ }
+    requires { ⌜ Tables order (now positions) (now firsts) (now low) × (1 ≤ n) × (n ≤ largest) × (d ≡ size order n n 0) ⌝ }
     ensures { λ r. ⌜ (wordBits (d + order) r ≡ codeword order n) × (r < 2 ^ (d + order)) ⌝ }
 {
     let count = low_count(order);
@@ -131,4 +136,29 @@ pub fn word(
     let left = high.left as usize;
     let digits = bits::wide(low[left]);
     high.word + (digits << (d + order) >> count)
+}
+
+// How many bits the codeword of n has. Whoever asks checks the order and the number before.
+pub fn bit_length(firsts: &[u32; 47], order: usize, n: u64) -> usize
+    requires { ⌜ Firsts order (now firsts) × (1 ≤ n) × (n ≤ largest) ⌝ }
+    ensures { λ r. ⌜ (r ≡ length (codeword order n)) × (r ≤ 47) ⌝ }
+{
+    stem(firsts, order, n) + order
+}
+
+// The codeword of n. Whoever writes it checks the order and the number before, and has the tables from above.
+pub fn coded(
+    positions: &[u32; 47],
+    firsts: &[u32; 47],
+    low: &[u8; 64],
+    order: usize,
+    n: u64,
+) -> Word
+    requires { ⌜ Tables order (now positions) (now firsts) (now low) × (1 ≤ n) × (n ≤ largest) ⌝ }
+    ensures { λ r. ⌜ (wordBits (r .len) (r .bits) ≡ codeword order n) × (r .bits < 2 ^ r .len) × (r .len ≡ length (codeword order n)) × (1 ≤ r .len) × (r .len ≤ 47) ⌝ }
+{
+    let d = stem(firsts, order, n);
+    let bits = word_of(positions, firsts, low, order, n, d);
+    let len = d + order;
+    Word { bits, len }
 }

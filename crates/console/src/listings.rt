@@ -1,6 +1,6 @@
 // The listing program's text, of a row and of an input as it stands.
 use crate::say;
-use listing_text::ListingAnswer;
+use calls::CountAnswer;
 
 // More than an input may have.
 const MOST_INPUT: usize = 45100;
@@ -12,8 +12,8 @@ fn listed(out: &mut [u8], input: &[u8], n: usize) -> usize {
     }
     let a = listing_text::listing(&input[0..n], out);
     match a {
-        ListingAnswer::Text(size) => if size == 0 { 0 } else { size - 1 },
-        ListingAnswer::Room => 0,
+        CountAnswer::Count(size) => if size == 0 { 0 } else { size - 1 },
+        CountAnswer::Refused(_) => 0,
     }
 }
 
@@ -27,7 +27,7 @@ fn put_line(input: &mut [u8], at: usize, n: u64) -> usize {
 fn put_row(input: &mut [u8], at: usize, row: &[u32]) -> usize {
     let mut at = at;
     for i in 0..row.len() {
-        at = put_line(input, at, fibonacci::wide(row[i]));
+        at = put_line(input, at, calls::wide(row[i]));
     }
     at
 }

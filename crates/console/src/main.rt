@@ -1,6 +1,6 @@
 // The console: reads requests from standard input, a line each, and prints the answer to each line before it reads on.
-mod calls;
 mod listings;
+mod requests;
 mod say;
 mod serve;
 mod texts;

@@ -1,6 +1,6 @@
 // The answer to a line.
-use crate::calls;
 use crate::listings;
+use crate::requests;
 use crate::say;
 use crate::texts;
 use crate::words;
@@ -119,7 +119,7 @@ fn bytes_in(
     s: &[u8],
     buf: &mut [u8],
 ) -> usize {
-    let a = calls::into_bytes(r.k, n, row, s, r.used, buf);
+    let a = requests::into_bytes(r.k, n, row, s, r.used, buf);
     let at = answered(out, r.k, a);
     let at = shown(
         out,
@@ -149,7 +149,7 @@ fn into_bytes(out: &mut [u8], r: Request, n: &[u64; 5], row: &[u32], s: &[u8]) -
 }
 
 fn row_in(out: &mut [u8], r: Request, order: u64, s: &[u8], row: &mut [u32]) -> usize {
-    let a = calls::into_row(r.k, order, s, row);
+    let a = requests::into_row(r.k, order, s, row);
     let at = answered(out, r.k, a);
     shown_row(out, at, r, extent(r, a, a.first as usize, row.len()), row)
 }
@@ -175,7 +175,7 @@ fn comma(out: &mut [u8], at: usize, i: usize) -> usize {
 // A number of a row and its bits; before all but the first, a comma.
 fn codeword(out: &mut [u8], at: usize, order: u64, i: usize, n: u32) -> usize {
     let mut buf = [0u8; 8];
-    let a = calls::write(order, &[n], &mut buf);
+    let a = requests::write(order, &[n], &mut buf);
     let at = comma(out, at, i);
     let at = say::number(out, at, n as u64);
     let at = say::byte(out, at, b' ');
@@ -193,7 +193,7 @@ fn each_codeword(out: &mut [u8], order: u64, row: &[u32]) -> usize {
 // The codewords of a row that writing accepts.
 fn codewords(out: &mut [u8], order: u64, row: &[u32]) -> usize {
     let mut buf = [0u8; MOST_BYTES];
-    let a = calls::write(order, row, &mut buf);
+    let a = requests::write(order, row, &mut buf);
     if a.number != 0 {
         return refusal(out, a);
     }
@@ -208,9 +208,9 @@ fn table(out: &mut [u8], k: usize, n: &[u64; 5], s: &[u8]) -> usize {
         return 0;
     }
     if k == texts::TABLE_ROW {
-        return texts::results(out, k, &calls::table_row(n, s[0]));
+        return texts::results(out, k, &requests::table_row(n, s[0]));
     }
-    texts::results(out, k, &[calls::table_value(n, s[0])])
+    texts::results(out, k, &[requests::table_value(n, s[0])])
 }
 
 // ## Requests
@@ -225,14 +225,14 @@ fn without_output(out: &mut [u8], k: usize, n: &[u64; 5], row: &[u32], s: &[u8])
     if k == texts::TABLE_ROW || k == texts::TABLE_VALUE {
         return table(out, k, n, s);
     }
-    answered(out, k, calls::ask(k, n, s))
+    answered(out, k, requests::ask(k, n, s))
 }
 
 fn with_list(out: &mut [u8], r: Request, n: &[u64; 5], row: &[u32], s: &[u8]) -> usize {
-    if calls::writes_bytes(r.k) {
+    if requests::writes_bytes(r.k) {
         return into_bytes(out, r, n, row, s);
     }
-    if calls::writes_row(r.k) {
+    if requests::writes_row(r.k) {
         return into_row(out, r, n[0], s);
     }
     without_output(out, r.k, n, row, s)
@@ -240,10 +240,10 @@ fn with_list(out: &mut [u8], r: Request, n: &[u64; 5], row: &[u32], s: &[u8]) ->
 
 // A room that is named, where there is an output and it may be so large; else more than any.
 fn exactly(k: usize, n: u64) -> usize {
-    if calls::writes_bytes(k) && n <= MOST_BYTES as u64 {
+    if requests::writes_bytes(k) && n <= MOST_BYTES as u64 {
         return n as usize;
     }
-    if calls::writes_row(k) && n <= MOST_NUMBERS as u64 {
+    if requests::writes_row(k) && n <= MOST_NUMBERS as u64 {
         return n as usize;
     }
     usize::MAX
@@ -253,7 +253,7 @@ fn enough(k: usize, len: usize) -> usize {
     if k == texts::APPEND {
         return wrapping_add_usize(len, APPENDED);
     }
-    if calls::writes_row(k) {
+    if requests::writes_row(k) {
         MOST_NUMBERS
     } else {
         MOST_BYTES
@@ -288,7 +288,7 @@ fn request_of(k: usize, room: Room, len: usize) -> Request {
 fn listed(out: &mut [u8], k: usize, room: Room, n: &[u64; 5], line: &[u8], at: usize) -> usize {
     let mut list = [0u32; MOST_BYTES];
     let mut s = [0u8; MOST_BYTES];
-    let has_row = calls::has_row(k);
+    let has_row = requests::has_row(k);
     let Found::Count(count) = words::elements(!has_row, line, at, &mut list) else {
         return 0;
     };
@@ -333,7 +333,7 @@ fn unlisted(out: &mut [u8], k: usize, times: u64, line: &[u8], at: usize) -> usi
 
 // The answer to the request of a line of the help, whose name ends at a place; 0 where the line has another form.
 fn requested(out: &mut [u8], k: usize, room: Room, line: &[u8], at: usize) -> usize {
-    let numbers = calls::numbers_of(k);
+    let numbers = requests::numbers_of(k);
     let mut n = [0u64; 5];
     if numbers > 5 {
         return 0;
@@ -341,10 +341,10 @@ fn requested(out: &mut [u8], k: usize, room: Room, line: &[u8], at: usize) -> us
     let Found::Count(at) = words::arguments(line, at, &mut n[0..numbers]) else {
         return 0;
     };
-    if !calls::is_fit(k, &n) {
+    if !requests::is_fit(k, &n) {
         return 0;
     }
-    if !calls::has_no_list(k) {
+    if !requests::has_no_list(k) {
         return listed(out, k, room, &n, line, at);
     }
     if is_named(room) {

@@ -53,24 +53,6 @@ ended #; finishing: bits #, values # # #; inside # #; remaining: bits #, value #
 value #\n\
 \n";
 
-// A refusal in words, by its number. Which is given when, paper 01 says; 13 is the listing program's alone.
-pub const REFUSALS: [u8; 514] = *b"\
-\n\
-the order is not 2 to 6\n\
-more than 24064 bytes, or more in use than the buffer has\n\
-a number is 0\n\
-more than 4096 numbers\n\
-the output is too short\n\
-8 bits or more, or a one, remain after the last codeword\n\
-a number is above 4294967295\n\
-the place, the span or the use is not in the row\n\
-the alphabet is not 1 to 4096\n\
-a number is 0 or above the alphabet\n\
-the bytes are no index of so many numbers\n\
-the number stands in the row fewer times\n\
-a line of the input has another form, or there is none\n\
-the repeats are not 1 to 10000\n";
-
 // The lines of the help.
 pub const CODEWORDS: usize = 1;
 
@@ -172,7 +154,7 @@ pub fn usage(out: &mut [u8], at: usize, k: usize) -> usize {
 }
 
 pub fn refusal(out: &mut [u8], at: usize, number: usize) -> usize {
-    let table = REFUSALS;
+    let table = calls::REFUSALS;
     put(out, at, &table, number, 0)
 }
 

@@ -1,7 +1,7 @@
 // The words of a line, and what they say. Blanks stand between words.
 ghost use Prim.Native.Nat.{_≤_, _<_};
 ghost use lib.ListN.{length};
-use crate::say::least;
+use calls::least;
 
 // What words say: a number, or how many elements of a list, or where on the line to go on; or that they have another form.
 pub enum Found {

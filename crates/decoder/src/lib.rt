@@ -1,119 +1,198 @@
-// Reading an encoding of order 2 to 6: by words as far as they go, and then bit by bit; and the scan that totals and appending share with it.
+// Reading an encoding of order 2 to 6: by words as far as they go, and then codeword by codeword; and the sums that totals and appending want of it.
 ghost use mathlib.Core.Path.{_≡_};
 ghost use Prim.Native.Nat.{_*_, _≤_, min};
-ghost use lib.ListN.{length, take};
-ghost use lib.Seq.{sets};
+ghost use lib.Dec.{ltb};
+ghost use lib.ListN.{length};
 ghost use Rattle.bits.specs.Bits.{unpack};
-ghost use Rattle.fibonacci.specs.Code.{first};
-ghost use Rattle.fibonacci.specs.Encoding.{numbers};
-ghost use Rattle.fibonacci.specs.Tables.{Order, tableRow};
-ghost use Rattle.fibonacci.specs.Calls.{accepted, andThen, largest, longest, mostBytes};
-ghost use Rattle.word_decoder.specs.Words.{Spanned};
-ghost use Rattle.reading.specs.Reading.{decode};
-ghost use Rattle.reading.specs.Answers.{ReadPromise};
-ghost use Rattle.bit_decoder.specs.Scan.{scanOutcome, found};
-ghost use Rattle.decoder.specs.Scan.{Stored};
+ghost use Rattle.calls.specs.Calls.{accepted, andThen, countOutcome};
+ghost use Rattle.calls.specs.Limits.{Order, largest, longest, mostBytes};
+ghost use Rattle.calls.specs.Reading.{decode};
+ghost use Rattle.fibonacci.specs.Tables.{Firsts};
+ghost use Rattle.word_decoder.specs.Words.{Spanned, Stored};
+ghost use Rattle.reading.specs.Reading.{fibonacci};
+ghost use Rattle.reading.specs.Answers.{ReadPromise, Begins};
+ghost use Rattle.decoder.specs.Spans.{found, spanOutcome, Leads};
 
-// So many bytes are read by words, and fewer bit by bit.
+// So many bytes are read by words, and fewer bit by bit: sooner than a table of values is made.
 const WORDS_FROM: usize = 17;
 
-// How many numbers so many bytes hold at most: no codeword is shorter than two bits.
-fn most_numbers(bytes: usize) -> usize
-    ensures { λ r. ⌜ r ≡ min longest (4 * bytes) ⌝ }
-{
-    if bytes < 1024 {
-        4 * bytes
-    } else {
-        fibonacci::LONGEST
-    }
+// What stands next in an encoding: a number and the bit after its codeword; the end of the row; or why the encoding is refused.
+enum Step {
+    Number(u64, usize),
+    End,
+    Refused(calls::Refusal),
 }
 
-// The codewords that words take. Where a sum is asked for, or the list has no room for every row, their numbers are summed, else stored. Few bytes are read
-// sooner bit by bit than a table of values is made.
-fn take_words(
+// What is told of a row: how many numbers it has, how many bits they take, the sum of those of a span and of all, and the bit where the span begins.
+pub struct Found {
+    pub count: usize,
+    pub bits: usize,
+    pub total: u64,
+    pub all: u64,
+    pub start: usize,
+}
+
+pub enum SpanAnswer {
+    Row(Found),
+    Refused(calls::Refusal),
+}
+
+// The check of an encoding's length.
+fn too_long(s: &[u8]) -> bool
+    ensures { λ r. ⌜ r ≡ ltb mostBytes (length (now (s .entry))) ⌝ }
+{
+    s.len() > calls::MOST_BYTES
+}
+
+// What stands from a bit on, after so many numbers: 4 is checked before 7, and 6 where no codeword is left.
+fn next_number(
+    firsts: &[u32; 47],
+    order: usize,
+    s: &[u8],
+    limit: u64,
+    bit: usize,
+    count: usize,
+) -> Step
+    requires { ⌜ Firsts order (now firsts) × (length (now s) ≤ mostBytes) × (limit ≤ largest) × (bit ≤ 8 * length (now s)) ⌝ }
+    ensures { λ r. ⌜ Leads order limit (now (s .entry)) bit count r ⌝ }
+{
+    let next = bit_decoder::seek(firsts, order, s, bit);
+    if next.run < order {
+        if reading::is_padding(next.len, next.val, next.run) {
+            return Step::End;
+        }
+        return Step::Refused(calls::Refusal::BadRest);
+    }
+    if count == calls::LONGEST {
+        return Step::Refused(calls::Refusal::TooManyCodewords);
+    }
+    let n = reading::number(firsts, order, next.len, next.val);
+    if !calls::is_number(n, limit) {
+        return Step::Refused(calls::Refusal::TooLarge(count));
+    }
+    Step::Number(n, next.bit)
+}
+
+// The numbers that words store.
+fn store_words(
+    firsts: &[u32; 47],
+    order: usize,
+    s: &[u8],
+    limit: u64,
+    row: &mut [u32],
+) -> word_decoder::Front
+    requires { ⌜ Firsts order (now firsts) × (length (now s) ≤ mostBytes) × (limit ≤ largest) ⌝ }
+    ensures { λ r. ⌜ Stored order limit (unpack (now (s .entry))) (now (row .entry)) (now (row .exit)) r ⌝ }
+{
+    if s.len() < WORDS_FROM {
+        return word_decoder::Front { bit: 0, count: 0 };
+    }
+    word_decoder::take_row(firsts, order, s, limit, row)
+}
+
+// The numbers that words sum.
+fn sum_words(
     firsts: &[u32; 47],
     order: usize,
     s: &[u8],
     limit: u64,
     from: usize,
     to: usize,
-    row: &mut [u32],
-) -> word_decoder::Front
-    requires { ⌜ Order order × (now firsts ≡ tableRow (first order)) × (length (now s) ≤ mostBytes) × (limit ≤ largest) ⌝ }
-    ensures { λ r. ⌜ Spanned order limit from to (unpack (now (s .entry))) r × (to ≡ 0 → min longest (4 * length (now (s .entry))) ≤ length (now (row .entry)) → now (row .exit) ≡ sets (now (row .entry)) 0 (take (r .count) (numbers order (unpack (now (s .entry)))))) ⌝ }
+) -> word_decoder::Reach
+    requires { ⌜ Firsts order (now firsts) × (length (now s) ≤ mostBytes) × (limit ≤ largest) ⌝ }
+    ensures { λ r. ⌜ Spanned order limit from to (unpack (now (s .entry))) r ⌝ }
 {
     if s.len() < WORDS_FROM {
-        return word_decoder::Front {
+        return word_decoder::Reach {
             bit: 0,
             count: 0,
             sum: 0,
+            all: 0,
+            start: 0,
         };
-    }
-    if to == 0 && most_numbers(s.len()) <= row.len() {
-        return word_decoder::take_row(firsts, order, s, limit, row);
     }
     word_decoder::take_span(firsts, order, s, limit, from, to)
 }
 
-// The scan of an encoding: the checks of order and length, and what it finds by words, and then bit by bit. The row goes to a list of the caller's own.
-fn scan_into(
-    order: usize,
-    s: &[u8],
-    from: usize,
-    to: usize,
-    row: &mut [u32],
-) -> bit_decoder::ScanAnswer
-    requires { ⌜ 1 ≤ length (now row) ⌝ }
-    ensures { λ r. ⌜ (scanOutcome r ≡ andThen (decode order (now (s .entry))) (λ row. accepted (found order from to row))) × (to ≡ 0 → min longest (4 * length (now (s .entry))) ≤ length (now (row .entry)) → Stored (decode order (now (s .entry))) (now (row .entry)) (now (row .exit))) ⌝ }
+// Stores the row of an encoding in a list with room for every row that so many bytes can hold: no codeword is shorter than two bits. Each operation checks its
+// order before, and its limit is at most 4,294,967,295.
+pub fn store_row(order: usize, s: &[u8], limit: u64, row: &mut [u32]) -> calls::CountAnswer
+    requires { ⌜ Order order × (limit ≤ largest) × (min longest (4 * length (now s)) ≤ length (now row)) ⌝ }
+    ensures { λ r. ⌜ (countOutcome r ≡ andThen (decode (fibonacci order) limit (now (s .entry))) (λ row. accepted (length row))) × Begins (decode (fibonacci order) limit (now (s .entry))) (now (row .exit)) ⌝ }
 {
-    if !fibonacci::is_order(order) {
-        return bit_decoder::ScanAnswer::Refused(reading::Refusal::Order);
-    }
-    if s.len() > fibonacci::MOST_BYTES {
-        return bit_decoder::ScanAnswer::Refused(reading::Refusal::Bytes);
+    if too_long(s) {
+        return calls::CountAnswer::Refused(calls::Refusal::TooManyBytes);
     }
     let firsts = fibonacci::first_numbers(order);
-    let limit = fibonacci::LARGEST;
-    let at = take_words(&firsts, order, s, limit, from, to, row);
-    bit_decoder::walk_bits(&firsts, order, s, limit, from, to, at, row)
-}
-
-// The scan for the calls that want no row: reading's checks, the count, the bits, and the sum of the numbers from one place up to but without another.
-pub fn scan(order: usize, s: &[u8], from: usize, to: usize) -> bit_decoder::ScanAnswer
-    ensures { λ r. ⌜ scanOutcome r ≡ andThen (decode order (now (s .entry))) (λ row. accepted (found order from to row)) ⌝ }
-{
-    let mut row: [u32; 1] = [0];
-    scan_into(order, s, from, to, &mut row)
-}
-
-// Reads an encoding by way of a list that `read` lends, with room for every row that so many bytes can hold.
-fn read_by(order: usize, s: &[u8], out: &mut [u32], row: &mut [u32]) -> reading::ReadAnswer
-    requires { ⌜ (1 ≤ length (now row)) × (min longest (4 * length (now s)) ≤ length (now row)) ⌝ }
-    ensures { λ r. ⌜ ReadPromise order (now (s .entry)) (now (out .entry)) r (now (out .exit)) ⌝ }
-{
-    let scanned = scan_into(order, s, 0, 0, row);
-    match scanned {
-        bit_decoder::ScanAnswer::Row(f) => {
-            let count = f.count;
-            if out.len() < count {
-                return reading::ReadAnswer::Room;
+    let at = store_words(&firsts, order, s, limit, row);
+    let mut bit = at.bit;
+    let mut count = at.count;
+    loop {
+        let next = next_number(&firsts, order, s, limit, bit, count);
+        match next {
+            Step::Number(n, after) => {
+                row[count] = n as u32;
+                bit = after;
+                count += 1;
             }
-            lists::copy(out, row, count);
-            reading::ReadAnswer::Row(count)
+            Step::End => return calls::CountAnswer::Count(count),
+            Step::Refused(r) => return calls::CountAnswer::Refused(r),
         }
-        bit_decoder::ScanAnswer::Refused(r) => reading::ReadAnswer::Refused(r),
     }
 }
 
-// Reads an encoding. The row goes to a list of its own first, as a refusal must leave the output as it was. No codeword is shorter than two bits, so 16 bytes
-// hold at most 64 numbers; a list of zeros for 4,096 takes longer to make than a few bytes take to read.
-pub fn read(order: usize, s: &[u8], out: &mut [u32]) -> reading::ReadAnswer
+// What is told of the row of an encoding and of a span of it, from one place up to but without another; the row itself goes nowhere. Each operation checks its
+// order before, and its limit is at most 4,294,967,295.
+pub fn sum_span(order: usize, s: &[u8], limit: u64, from: usize, to: usize) -> SpanAnswer
+    requires { ⌜ Order order × (limit ≤ largest) ⌝ }
+    ensures { λ r. ⌜ spanOutcome r ≡ andThen (decode (fibonacci order) limit (now (s .entry))) (λ row. accepted (found order from to row)) ⌝ }
+{
+    if too_long(s) {
+        return SpanAnswer::Refused(calls::Refusal::TooManyBytes);
+    }
+    let firsts = fibonacci::first_numbers(order);
+    let at = sum_words(&firsts, order, s, limit, from, to);
+    let mut bits = at.bit;
+    let mut count = at.count;
+    let mut total = at.sum;
+    let mut all = at.all;
+    let mut start = at.start;
+    loop {
+        let next = next_number(&firsts, order, s, limit, bits, count);
+        match next {
+            Step::Number(n, after) => {
+                total += word_decoder::counted(n, from, to, count);
+                all += n;
+                bits = after;
+                count += 1;
+                start = word_decoder::begins(start, from, count, bits);
+            }
+            Step::End => return SpanAnswer::Row(Found {
+                count,
+                bits,
+                total,
+                all,
+                start,
+            }),
+            Step::Refused(r) => return SpanAnswer::Refused(r),
+        }
+    }
+}
+
+// Reads an encoding. The row goes to a list of its own first, as a refusal must leave the output as it was. 16 bytes hold at most 64 numbers; a list of zeros
+// for 4,096 takes longer to make than a few bytes take to read.
+pub fn read(order: usize, s: &[u8], out: &mut [u32]) -> calls::CountAnswer
     ensures { λ r. ⌜ ReadPromise order (now (s .entry)) (now (out .entry)) r (now (out .exit)) ⌝ }
 {
+    if !calls::is_order(order) {
+        return calls::CountAnswer::Refused(calls::Refusal::BadOrder);
+    }
     if s.len() <= 16 {
         let mut few: [u32; 64] = [0; 64];
-        return read_by(order, s, out, &mut few);
+        let scanned = store_row(order, s, calls::LARGEST, &mut few);
+        return reading::deliver(scanned, &few, out);
     }
-    let mut row: [u32; fibonacci::LONGEST] = [0; fibonacci::LONGEST];
-    read_by(order, s, out, &mut row)
+    let mut row: [u32; calls::LONGEST] = [0; calls::LONGEST];
+    let scanned = store_row(order, s, calls::LARGEST, &mut row);
+    reading::deliver(scanned, &row, out)
 }

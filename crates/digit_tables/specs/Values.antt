@@ -3,7 +3,7 @@ use mathlib.Core.List.{List}
 use Prim.Native.Nat.{ℕ, _+_, _*_, _/_, _%_, min}
 use Rattle.bits.specs.Bits.{wordBits}
 use Rattle.fibonacci.specs.Code.{valuesFrom, value}
-use Rattle.fibonacci.specs.Calls.{largest}
+use Rattle.calls.specs.Limits.{largest}
 
 -- Entry 256 c + b of the table for order m: what the byte b is worth as byte c of the digits, digit 8 c + 1 on its top; the largest number where that is
 -- above

@@ -12,7 +12,7 @@ use lib.Bits.{bitAnd, and-high}
 use Rattle.bits.specs.Bits.{wordBits}
 use Rattle.bits.proofs.Words.{words-length, words-split, words-padded}
 use Rattle.fibonacci.specs.Code.{value}
-use Rattle.fibonacci.specs.Calls.{largest}
+use Rattle.calls.specs.Limits.{largest}
 use Rattle.fibonacci.proofs.Numbers.{value-append}
 use Rattle.fibonacci.proofs.Lookup.{values-at}
 use Rattle.digit_tables.specs.Values.{byteValue, byteValues}

@@ -5,8 +5,7 @@ ghost use Prim.Native.Nat.{_+_, _-_, _*_, _/_, _^_, _≤_, _<_, min};
 ghost use lib.ListN.{take, getD};
 ghost use Rattle.bits.specs.Bits.{wordBits};
 ghost use Rattle.fibonacci.specs.Code.{value};
-ghost use Rattle.fibonacci.specs.Calls.{largest};
-ghost use Rattle.fibonacci.specs.Tables.{Order};
+ghost use Rattle.calls.specs.Limits.{largest, Order};
 ghost use Rattle.digit_tables.specs.Values.{byteValues};
 ghost use Rattle.digit_values.specs.Values.{Capped};
 
@@ -16,7 +15,7 @@ fn entry(values: &[u32; 1536], order: usize, c: usize, x: u64) -> u64
     ensures { λ r. ⌜ (r ≡ min largest (value order (8 * c + 1) (wordBits 8 (x / 2 ^ (56 - 8 * c))))) × (r ≤ largest) ⌝ }
 {
     let byte = (x >> (56 - 8 * c)) as usize % 256;
-    fibonacci::wide(values[256 * c + byte])
+    calls::wide(values[256 * c + byte])
 }
 
 // The first two bytes of x.

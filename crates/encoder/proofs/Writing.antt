@@ -11,11 +11,17 @@ use Rattle.bits.specs.Bits.{Bytes, byteCount, unpack, putAt}
 use Rattle.bits.proofs.Packing.{pack-length}
 use Rattle.bits.proofs.Put.{put-packed}
 use Rattle.fibonacci.specs.Encoding.{rowBits, encoding}
-use Rattle.fibonacci.specs.Tables.{Order}
-use Rattle.fibonacci.specs.Calls.{Outcome, accepted, refused, buffer, isOrder, Legal, largest, longest, checkEach}
-use Rattle.fibonacci.proofs.Checks.{order-is, is-order, check-passed, accepted-one, each-passed, each-accepted, each-refused}
-use Rattle.encoder.specs.Writing.{write, writeInto}
+use Rattle.calls.specs.declared.Refusal.{Refusal}
+use Rattle.calls.specs.declared.Refusal.the-variants.{BadOrder, BadNumber, TooManyNumbers, NoRoom}
+use Rattle.calls.specs.Calls.{Outcome, accepted, refused, buffer}
+use Rattle.calls.specs.Limits.{isOrder, Order, Legal, largest, longest, checkEach}
+use Rattle.calls.proofs.Checks.{order-is, is-order, check-passed, accepted-one, each-passed, each-accepted, each-refused}
 use Rattle.codeword_writer.proofs.Rows.{bits-few}
+use Rattle.encoder.specs.Writing.{write, writeInto}
+
+bytes-are : (m : ℕ) (row : List ℕ) → length (encoding m row) ≡ byteCount (length (rowBits m row))
+unfolding encoding
+bytes-are m row = pack-length (rowBits m row)
 
 -- ## What is accepted
 
@@ -30,10 +36,10 @@ pub write-is : (m : ℕ) (row : List ℕ) (room bytes bits : ℕ) → write m ro
     → Writable m row room × (bytes ≡ length (encoding m row)) × (bits ≡ length (rowBits m row))
 unfolding write
 write-is m row room bytes bits e =
-    let p1 = check-passed 1 0 (not (isOrder m)) _ _ e in
-    let p4 = check-passed 4 0 (ltb longest (length row)) _ _ (p1 .1) in
-    let p3 = each-accepted 3 largest 0 row _ _ (p4 .1) in
-    let p5 = check-passed 5 0 (ltb room (length (encoding m row))) _ _ (p3 .1) in
+    let p1 = check-passed BadOrder (not (isOrder m)) _ _ e in
+    let p4 = check-passed TooManyNumbers (ltb longest (length row)) _ _ (p1 .1) in
+    let p3 = each-accepted BadNumber largest 0 row _ _ (p4 .1) in
+    let p5 = check-passed NoRoom (ltb room (length (encoding m row))) _ _ (p3 .1) in
     let same : _≡_ {A = ℕ × ℕ} (length (encoding m row), length (rowBits m row)) (bytes, bits) = accepted-one (p5 .1) in (
       record {
         order = order-is m (not-false _ (p1 .0));
@@ -48,61 +54,59 @@ write-is m row room bytes bits e =
 pub write-accepts : (m : ℕ) (row : List ℕ) (room : ℕ) → Writable m row room → write m row room ≡ accepted (length (encoding m row), length (rowBits m row))
 unfolding write
 write-accepts m row room w =
-    rw (is-order m (w .order), le-ltb longest (length row) (w .count), each-passed 3 largest 0 row _ (w .legal), le-ltb room (length (encoding m row)) (w .fits)) refl
+    rw (is-order m (w .order), le-ltb longest (length row) (w .count), each-passed BadNumber largest 0 row _ (w .legal), le-ltb room (length (encoding m row)) (w .fits)) refl
 
--- ## The answers, check by check
+-- ## What is decided, check by check
 
--- the call answers so, and the output that was before is after
-abbrev pub Writes : ℕ → List ℕ → List ℕ → List ℕ → Outcome (ℕ × ℕ) → Type 0
-Writes m row before after outcome = (outcome ≡ write m row (length before)) × (after ≡ writeInto m row before)
+module _ (m : ℕ) (row : List ℕ) (room : ℕ) (o : isOrder m ≡ true) where
+  pub write-count : longest < length row → refused TooManyNumbers ≡ write m row room
+  unfolding write
+  write-count h = rw (o, lt-ltb longest (length row) h) refl
+
+  module _ (l : length row ≤ longest) where
+    pub write-number : (bits : ℕ) (r : Refusal) → refused r ≡ checkEach BadNumber largest 0 row (accepted bits) → refused r ≡ write m row room
+    unfolding write
+    write-number bits r e = rw (o, le-ltb longest (length row) l) (sym (each-refused BadNumber largest 0 row bits r _ (sym e)))
+
+    -- the row has so many bits
+    module _ (bits : ℕ) (e : accepted bits ≡ checkEach BadNumber largest 0 row (accepted (length (rowBits m row)))) where
+      measured : Legal largest row × (length (rowBits m row) ≡ bits)
+      measured = let x = each-accepted BadNumber largest 0 row _ bits (sym e) in (x .0, accepted-one (x .1))
+
+      bytes : length (encoding m row) ≡ byteCount bits
+      bytes = bytes-are m row ∙ ap byteCount (measured .1)
+
+      pub bits-most : bits ≤ 47 * longest
+      bits-most = omega (arith, measured .1, bits-few m row (order-is m o) (measured .0))
+
+      pub write-room : room < byteCount bits → refused NoRoom ≡ write m row room
+      unfolding write
+      write-room h = rw (o, le-ltb longest (length row) l, each-passed BadNumber largest 0 row _ (measured .0), bytes, lt-ltb room (byteCount bits) h) refl
+
+      pub write-done : byteCount bits ≤ room → accepted (byteCount bits, bits) ≡ write m row room
+      write-done h =
+          let w : Writable m row room = record { order = order-is m o; count = l; legal = measured .0; fits = omega (arith, bytes) } in
+          sym (write-accepts m row room w ∙ ap₂ (λ (k n : ℕ). accepted (k, n)) bytes (measured .1))
+
+-- ## What is left behind
 
 module _ (m : ℕ) (row before : List ℕ) where
-  answer : (outcome : Outcome (ℕ × ℕ)) → write m row (length before) ≡ outcome → Writes m row before (buffer outcome (encoding m row) before) outcome
+  left : {outcome : Outcome (ℕ × ℕ)} → outcome ≡ write m row (length before) → buffer outcome (encoding m row) before ≡ writeInto m row before
   unfolding writeInto
-  answer outcome e = (sym e, ap (λ (o : Outcome (ℕ × ℕ)). buffer o (encoding m row) before) (sym e))
+  left e = ap (λ (o : Outcome (ℕ × ℕ)). buffer o (encoding m row) before) e
 
-  pub write-order : isOrder m ≡ false → Writes m row before before (refused 1 0)
-  unfolding write
-  write-order o = answer (refused 1 0) (rw o)
+  pub write-order : isOrder m ≡ false → (refused BadOrder ≡ write m row (length before)) × (before ≡ writeInto m row before)
+  unfolding write writeInto
+  write-order o = rw o (refl, refl)
 
-  pub write-count : isOrder m ≡ true → longest < length row → Writes m row before before (refused 4 0)
-  unfolding write
-  write-count o h = answer (refused 4 0) (rw (o, lt-ltb longest (length row) h))
+  pub write-refused : (r : Refusal) → refused r ≡ write m row (length before) → before ≡ writeInto m row before
+  write-refused r e = left e
 
-module _ (m : ℕ) (row before : List ℕ) (o : isOrder m ≡ true) (l : length row ≤ longest) where
-  pub write-number : (bits place : ℕ) {measured : Outcome ℕ} → measured ≡ refused 3 place → measured ≡ checkEach 3 largest 0 row (accepted bits)
-      → Writes m row before before (refused 3 place)
-  unfolding write
-  write-number bits place f e =
-      answer m row before (refused 3 place) (rw (o, le-ltb longest (length row) l) (each-refused 3 largest 0 row bits 3 place _ (sym e ∙ f)))
+  -- what the codeword writer asks, and what it leaves
+  module _ (bytes bits : ℕ) (e : accepted (bytes, bits) ≡ write m row (length before)) where
+    pub write-asks : (length row ≤ longest) × Legal largest row × (bytes ≡ byteCount (length (rowBits m row))) × (bytes ≤ length before)
+    write-asks = let x = write-is m row (length before) bytes bits (sym e) in (x .0 .count, x .0 .legal, x .1 ∙ bytes-are m row, omega (arith, x .0 .fits, x .1))
 
--- the order, the count and the numbers are passed, and the row has so many bits
-pub record Passed (m : ℕ) (row : List ℕ) (bits : ℕ) : Type 0 where
-  pub order : isOrder m ≡ true
-  pub count : length row ≤ longest
-  pub legal : Legal largest row
-  pub long : length (rowBits m row) ≡ bits
-
-pub passed-few : (m : ℕ) (row : List ℕ) (bits : ℕ) → Passed m row bits → bits ≤ 47 * longest
-passed-few m row bits p = omega (arith, p .long, p .count, bits-few m row (order-is m (p .order)) (p .legal))
-
-module _ (m : ℕ) (row before : List ℕ) (bits : ℕ) (p : Passed m row bits) where
-  bytes : length (encoding m row) ≡ byteCount bits
-  unfolding encoding
-  bytes = rw (pack-length (rowBits m row), p .long)
-
-  pub write-room : length before < byteCount bits → Writes m row before before (refused 5 0)
-  unfolding write
-  write-room h =
-      answer m row before (refused 5 0)
-      (rw (p .order, le-ltb longest (length row) (p .count), each-passed 3 largest 0 row _ (p .legal), bytes, lt-ltb (length before) (byteCount bits) h))
-
-  pub write-done : (after : List ℕ) → byteCount bits ≤ length before → Bytes before → Bytes after → unpack after ≡ putAt 0 (rowBits m row) (unpack before)
-      → Writes m row before after (accepted (byteCount bits, bits))
-  unfolding encoding
-  write-done after h hb ha e =
-      let w : Writable m row (length before) =
-      record { order = order-is m (p .order); count = p .count; legal = p .legal; fits = omega (arith, bytes) } in
-      let x = answer m row before (accepted (byteCount bits, bits))
-      (write-accepts m row (length before) w ∙ ap₂ (λ (k n : ℕ). accepted (k, n)) bytes (p .long)) in
-      (x .0, put-packed before after 0 (rowBits m row) (omega arith) hb ha e ∙ x .1)
+    pub write-put : (after : List ℕ) → Bytes before → Bytes after → unpack after ≡ putAt 0 (rowBits m row) (unpack before) → after ≡ writeInto m row before
+    unfolding encoding
+    write-put after hb ha u = put-packed before after 0 (rowBits m row) (omega arith) hb ha u ∙ left e

@@ -2,67 +2,69 @@
 ghost use mathlib.Core.Path.{_≡_};
 ghost use Prim.Native.Nat.{_≤_};
 ghost use lib.ListN.{length};
-ghost use Rattle.fibonacci.specs.Code.{first};
+ghost use Rattle.calls.specs.declared.Refusal.the-variants.{BadNumber};
+ghost use Rattle.calls.specs.Calls.{accepted, countOutcome};
+ghost use Rattle.calls.specs.Limits.{largest, longest, checkEach};
 ghost use Rattle.fibonacci.specs.Encoding.{rowBits};
-ghost use Rattle.fibonacci.specs.Tables.{Order, tableRow};
-ghost use Rattle.fibonacci.specs.Calls.{accepted, largest, longest, checkEach};
-ghost use Rattle.encoder.specs.Writing.{write, writeInto};
-ghost use Rattle.encoder.specs.Answers.{writeOutcome, measuredOutcome};
+ghost use Rattle.fibonacci.specs.Tables.{Firsts};
+ghost use Rattle.encoder.specs.Writing.{write, writeInto, writeOutcome};
+use calls::CountAnswer;
+use calls::Refusal;
 
-// The refusals' numbers are paper 01's.
 pub enum WriteAnswer {
     Written { bytes: usize, bits: usize },
-    // 1: the order is not 2 to 6.
-    Order,
-    // 4: there are more than 4,096 numbers.
-    Count,
-    // 3: the number at this place is 0.
-    Number(usize),
-    // 5: the output is shorter than the encoding.
-    Room,
+    Refused(Refusal),
 }
 
-// What measuring a row finds: how many bits its codewords have, or the place of the first number at fault.
-enum Measured {
-    Bits(usize),
-    Fault(usize),
-}
-
-// How many bits the codewords of a row have, or the place of the first number that is 0 or above the limit.
-fn measure(firsts: &[u32; 47], order: usize, row: &[u32], limit: u64) -> Measured
-    requires { ⌜ Order order × (now firsts ≡ tableRow (first order)) × (length (now row) ≤ longest) × (limit ≤ largest) ⌝ }
-    ensures { λ r. ⌜ measuredOutcome r ≡ checkEach 3 limit 0 (now (row .entry)) (accepted (length (rowBits order (now (row .entry))))) ⌝ }
+// How many bits the codewords of a row have, if no number is 0 or above the limit.
+fn measure(firsts: &[u32; 47], order: usize, row: &[u32], limit: u64) -> CountAnswer
+    requires { ⌜ Firsts order (now firsts) × (length (now row) ≤ longest) × (limit ≤ largest) ⌝ }
+    ensures { λ r. ⌜ countOutcome r ≡ checkEach BadNumber limit 0 (now (row .entry)) (accepted (length (rowBits order (now (row .entry))))) ⌝ }
 {
     let mut bits: usize = 0;
     for i in 0..row.len() {
-        let n = fibonacci::wide(row[i]);
-        if !fibonacci::is_number(n, limit) {
-            return Measured::Fault(i);
+        let n = calls::wide(row[i]);
+        if !calls::is_number(n, limit) {
+            return CountAnswer::Refused(Refusal::BadNumber(i));
         }
-        bits += codewords::stem(firsts, order, n) + order;
+        bits += codewords::bit_length(firsts, order, n);
     }
-    Measured::Bits(bits)
+    CountAnswer::Count(bits)
 }
 
-// Writes a row. It is measured first, as a refusal must leave the output as it was.
+// What writing a row to an output of so many bytes answers, once the order is checked: all that is to be decided before the output may be touched.
+fn plan(firsts: &[u32; 47], order: usize, row: &[u32], room: usize) -> WriteAnswer
+    requires { ⌜ Firsts order (now firsts) ⌝ }
+    ensures { λ r. ⌜ writeOutcome r ≡ write order (now (row .entry)) room ⌝ }
+{
+    if row.len() > calls::LONGEST {
+        return WriteAnswer::Refused(Refusal::TooManyNumbers);
+    }
+    let measured = measure(firsts, order, row, calls::LARGEST);
+    match measured {
+        CountAnswer::Refused(r) => WriteAnswer::Refused(r),
+        CountAnswer::Count(bits) => {
+            let bytes = (bits + 7) / 8;
+            if room < bytes {
+                return WriteAnswer::Refused(Refusal::NoRoom);
+            }
+            WriteAnswer::Written { bytes, bits }
+        }
+    }
+}
+
+// Writes a row.
 pub fn write(order: usize, row: &[u32], out: &mut [u8]) -> WriteAnswer
     ensures { λ r. ⌜ (writeOutcome r ≡ write order (now (row .entry)) (length (now (out .entry)))) × (now (out .exit) ≡ writeInto order (now (row .entry)) (now (out .entry))) ⌝ }
 {
-    if !fibonacci::is_order(order) {
-        return WriteAnswer::Order;
-    }
-    if row.len() > fibonacci::LONGEST {
-        return WriteAnswer::Count;
+    if !calls::is_order(order) {
+        return WriteAnswer::Refused(Refusal::BadOrder);
     }
     let firsts = fibonacci::first_numbers(order);
-    let measured = measure(&firsts, order, row, fibonacci::LARGEST);
-    match measured {
-        Measured::Fault(place) => WriteAnswer::Number(place),
-        Measured::Bits(bits) => {
-            let bytes = (bits + 7) / 8;
-            if out.len() < bytes {
-                return WriteAnswer::Room;
-            }
+    let planned = plan(&firsts, order, row, out.len());
+    match planned {
+        WriteAnswer::Refused(r) => WriteAnswer::Refused(r),
+        WriteAnswer::Written { bytes, bits } => {
             let positions = fibonacci::positions(order);
             let low = codewords::low_digits(order);
             codeword_writer::put_row(out, bytes, &positions, &firsts, &low, order, row);

@@ -7,7 +7,7 @@ use lib.ListN.{length}
 use Rattle.bits.specs.Bits.{bitOf, wordBits}
 use Rattle.fibonacci.specs.Code.{valuesFrom, past, F, first, digits, size, codeword}
 use Rattle.fibonacci.specs.Encoding.{parsed, parse, parseAfter}
-use Rattle.fibonacci.specs.Calls.{largest}
+use Rattle.calls.specs.Limits.{largest}
 
 -- Bits as a binary numeral with a one put before them, so that zeros at the start count: 0b1_011 is 011
 word : ℕ → List Bool

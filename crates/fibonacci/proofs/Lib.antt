@@ -1,4 +1,3 @@
-pub mod Each
 pub mod Computed
 pub mod Runs
 pub mod Numeration
@@ -7,5 +6,4 @@ pub mod Parse
 pub mod Rows
 pub mod Demand
 pub mod Lookup
-pub mod Checks
 pub mod Sums

@@ -10,8 +10,8 @@ use lib.Dec.{leb}
 use lib.ListN.{getD, replicate, getD-replicate}
 use borrow.Author.Tests.{le-leb, lt-leb, leb-true, leb-false}
 use Rattle.fibonacci.specs.Code.{valuesFrom, past, F, first}
-use Rattle.fibonacci.specs.Calls.{largest}
-use Rattle.fibonacci.specs.Tables.{Order, bounded, tableRow, tableOf}
+use Rattle.calls.specs.Limits.{largest, Order}
+use Rattle.fibonacci.specs.Tables.{bounded, tableRow, tableOf}
 use Rattle.fibonacci.proofs.Numeration.{F-rises}
 use Rattle.fibonacci.proofs.Numbers.{first-rises}
 

@@ -9,7 +9,8 @@ use native.Mathlib.Nat.{zero-add, eq-or-lt-of-le}
 use lib.ListN.{replicate-append-replicate}
 use borrow.Author.Tests.{eq-eqb, ne-eqb}
 use Rattle.fibonacci.specs.Code.{ones, lead, runs, Codeword}
-use Rattle.fibonacci.specs.Encoding.{parsed, Parse, codewords, rest, All, IsParse, push, prepend, parseAfter, parse}
+use Rattle.calls.specs.Limits.{All}
+use Rattle.fibonacci.specs.Encoding.{parsed, Parse, codewords, rest, IsParse, push, prepend, parseAfter, parse}
 use Rattle.fibonacci.proofs.Runs.{runs-more, runs-after, lead-ones, runs-ones, runs-all, ones-on, runs-reset, runs-full}
 
 -- ## The steps of the parse

@@ -9,7 +9,8 @@ use Rattle.bits.specs.Bits.{unpack, padding}
 use Rattle.bits.proofs.Lists.{flatten-map-append}
 use Rattle.bits.proofs.Packing.{unpack-pack}
 use Rattle.fibonacci.specs.Code.{runs, Codeword, number, codeword}
-use Rattle.fibonacci.specs.Encoding.{All, Positive, rowBits, encoding, Parse, parsed, codewords, rest, parse, numbers}
+use Rattle.calls.specs.Limits.{All}
+use Rattle.fibonacci.specs.Encoding.{Positive, rowBits, encoding, Parse, parsed, codewords, rest, parse, numbers}
 use Rattle.fibonacci.proofs.Runs.{runs-false}
 use Rattle.fibonacci.proofs.Numbers.{codeword-good, codeword-number}
 use Rattle.fibonacci.proofs.Parse.{parse-is, onto, onto-codewords, onto-parsed, parse-flatten, parse-rest}

@@ -1,5 +1,4 @@
 pub mod Code
 pub mod Encoding
 pub mod Demand
-pub mod Calls
 pub mod Tables

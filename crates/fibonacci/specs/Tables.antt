@@ -1,14 +1,11 @@
 -- The constant tables of position values and first numbers, as far as the largest number needs them.
+use mathlib.Core.Path.{_≡_}
 use mathlib.Core.Bool.{true, false}
 use mathlib.Core.List.{List}
-use Prim.Native.Nat.{ℕ, _≤_}
+use Prim.Native.Nat.{ℕ}
 use lib.Dec.{leb}
-use Rattle.fibonacci.specs.Calls.{largest}
-use Rattle.fibonacci.specs.Code.{valuesFrom}
-
--- The orders in use: 2, 3, 4, 5 and 6 (`isOrder` decides it)
-abbrev pub Order : ℕ → Type 0
-Order m = (2 ≤ m) × (m ≤ 6)
+use Rattle.calls.specs.Limits.{Order, largest}
+use Rattle.fibonacci.specs.Code.{valuesFrom, F, first}
 
 -- What a table holds for a value: the value where it is at most the largest number, and 0 where it is above
 unfoldable pub bounded : ℕ → ℕ
@@ -22,3 +19,10 @@ tableRow f = valuesFrom (λ j. bounded (f j)) 0 47
 unfoldable pub tableOf : (ℕ → ℕ → ℕ) → List (List ℕ)
 unfolding tableRow
 tableOf f = valuesFrom (λ m. tableRow (f m)) 2 5
+
+-- What a function knows of a row that it is lent: the order is in use, and these are its position values, or its first numbers
+abbrev pub Positions : ℕ → List ℕ → Type 0
+Positions m row = Order m × (row ≡ tableRow (F m))
+
+abbrev pub Firsts : ℕ → List ℕ → Type 0
+Firsts m row = Order m × (row ≡ tableRow (first m))

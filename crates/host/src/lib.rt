@@ -2,23 +2,23 @@
 ghost use mathlib.Core.Path.{_≡_};
 ghost use Prim.Native.Nat.{_≤_};
 ghost use lib.ListN.{length};
-ghost use Rattle.fibonacci.specs.Calls.{longest};
-ghost use Rattle.reading.specs.Answers.{reason, refusal};
+ghost use Rattle.calls.specs.Refusals.{reason};
+ghost use Rattle.calls.specs.Calls.{refused};
+ghost use Rattle.calls.specs.Limits.{longest};
 ghost use Rattle.totals.specs.Totals.{total};
 ghost use Rattle.table_decoder.specs.Reading.{readBytes, readBytesInto};
 ghost use Rattle.host.specs.Host.{hostNumber};
 
-// The host's number for an encoding that is not read.
-fn unread(r: reading::Refusal) -> u64
+// The host's number for a refusal. Both functions refuse no place above 4,096.
+fn number_of(r: calls::Refusal) -> u64
     requires { ⌜ reason r .1 ≤ longest ⌝ }
-    ensures { λ n. ⌜ n ≡ hostNumber (refusal r) ⌝ }
+    ensures { λ n. ⌜ n ≡ hostNumber (refused r) ⌝ }
 {
-    match r {
-        reading::Refusal::Order => 1,
-        reading::Refusal::Bytes => 2,
-        reading::Refusal::Count => 4,
-        reading::Refusal::Number(place) => 7 + 32 * place as u64,
-        reading::Refusal::Rest => 6,
+    let told = calls::reason(r);
+    if told.number == 7 {
+        7 + 32 * told.place as u64
+    } else {
+        told.number
     }
 }
 
@@ -29,9 +29,8 @@ pub extern "C" fn leadginger_read(s: &[u8], out: &mut [u8]) -> u64
 {
     let answer = table_decoder::read_bytes(s, out);
     match answer {
-        reading::ReadAnswer::Row(count) => 32 * count as u64,
-        reading::ReadAnswer::Refused(r) => unread(r),
-        reading::ReadAnswer::Room => 5,
+        calls::CountAnswer::Count(count) => 32 * count as u64,
+        calls::CountAnswer::Refused(r) => number_of(r),
     }
 }
 
@@ -43,7 +42,6 @@ pub extern "C" fn leadginger_total(order: usize, s: &[u8], a: usize, b: usize) -
     let answer = totals::total(order, s, a, b);
     match answer {
         totals::TotalAnswer::Sum(total) => 32 * total,
-        totals::TotalAnswer::Refused(r) => unread(r),
-        totals::TotalAnswer::Span => 8,
+        totals::TotalAnswer::Refused(r) => number_of(r),
     }
 }

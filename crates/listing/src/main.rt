@@ -44,8 +44,8 @@ fn print(input: &[u8], out: &mut [u8; listing_text::MOST_TEXT]) -> usize
     ensures { λ r. ⌜ (take r (now (out .exit)) ≡ text (now (input .entry))) × (r ≤ mostText) × (length (now (out .exit)) ≡ mostText) ⌝ }
 {
     match listing_text::listing(input, out) {
-        listing_text::ListingAnswer::Text(n) => n,
-        listing_text::ListingAnswer::Room => 0,
+        calls::CountAnswer::Count(n) => n,
+        calls::CountAnswer::Refused(_) => 0,
     }
 }
 

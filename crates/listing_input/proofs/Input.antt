@@ -11,9 +11,9 @@ use lib.Seq.{take-at, drop-at, drop-drop, take-suc-set, sets, sets-eq, set-at}
 use borrow.Author.Tests.{eq-eqb, eqb-true, lt-ltb, ltb-true}
 use Rattle.columns.specs.Columns.{column, decimal}
 use Rattle.columns.proofs.Columns.{column-length, column-number, column-below}
-use Rattle.fibonacci.specs.Encoding.{All}
+use Rattle.calls.proofs.Checks.{both}
+use Rattle.calls.specs.Limits.{All}
 use Rattle.fibonacci.specs.Tables.{bounded}
-use Rattle.fibonacci.proofs.Checks.{both}
 use Rattle.listing_input.specs.Input.{inputLine, inputOf, fieldsOf, fields, same, isInput, InputForm}
 
 -- ## Equal lists

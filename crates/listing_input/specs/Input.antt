@@ -6,7 +6,7 @@ use Prim.Native.Nat.{ℕ, zero, suc, _/_, _^_, _≤_, _<_}
 use lib.Dec.{eqb, ltb}
 use lib.ListN.{length, take, drop}
 use Rattle.columns.specs.Columns.{ascii, column, decimal}
-use Rattle.fibonacci.specs.Encoding.{All}
+use Rattle.calls.specs.Limits.{All}
 
 -- A line: a number right-justified with spaces in 10 columns, without leading zeros, and a line feed
 abbrev pub inputLine : ℕ → List ℕ

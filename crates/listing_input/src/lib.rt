@@ -28,7 +28,7 @@ fn is_line(line: &[u8], n: u64) -> bool
 fn clip(n: u64) -> u32
     ensures { λ r. ⌜ r ≡ bounded n ⌝ }
 {
-    if n <= fibonacci::LARGEST { n as u32 } else { 0 }
+    if n <= calls::LARGEST { n as u32 } else { 0 }
 }
 
 // Whether each line of the input is of the form, and there is one; the numbers then begin the list. The listing sees before that the input is not long.

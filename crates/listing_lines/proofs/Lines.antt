@@ -8,7 +8,7 @@ use lib.ListN.{length, getD, drop, length-append, drop-of-length-le}
 use lib.Seq.{sets, drop-cons}
 use Rattle.columns.proofs.Columns.{column-length, sets-then}
 use Rattle.fibonacci.specs.Code.{codeword}
-use Rattle.fibonacci.specs.Calls.{largest}
+use Rattle.calls.specs.Limits.{largest}
 use Rattle.listing_lines.specs.Lines.{header, rowLine, rowLines, lastLine, lines}
 
 -- ## Lengths

@@ -3,8 +3,7 @@ ghost use mathlib.Core.Path.{_≡_};
 ghost use Prim.Native.Nat.{_+_, _*_, _≤_};
 ghost use lib.ListN.{length};
 ghost use lib.Seq.{sets};
-ghost use Rattle.fibonacci.specs.Tables.{Order};
-ghost use Rattle.fibonacci.specs.Calls.{Legal, largest, longest};
+ghost use Rattle.calls.specs.Limits.{Order, Legal, largest, longest};
 ghost use Rattle.listing_lines.specs.Lines.{rowLine, rowLines, lines};
 
 // A number's line, from byte `at` on.
@@ -27,8 +26,8 @@ fn put_rows(out: &mut [u8], order: usize, row: &[u32])
     let firsts = fibonacci::first_numbers(order);
     let mut total: u64 = 0;
     for i in 0..row.len() {
-        let n = fibonacci::wide(row[i]);
-        let bits = codewords::stem(&firsts, order, n) + order;
+        let n = calls::wide(row[i]);
+        let bits = codewords::bit_length(&firsts, order, n);
         total += n;
         put_line(out, 38 + 38 * i, i as u64, n, bits as u64, total);
     }

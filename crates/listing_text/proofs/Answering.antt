@@ -9,9 +9,13 @@ use lib.ListN.{length, getD, take, drop}
 use borrow.Author.Tests.{lt-ltb, le-ltb}
 use Rattle.columns.proofs.Columns.{column-number}
 use Rattle.fibonacci.specs.Code.{size, codeword}
-use Rattle.fibonacci.specs.Calls.{Outcome, accepted, refused, Legal, largest, longest, mostBytes}
-use Rattle.fibonacci.proofs.Checks.{number-is, check-passed, then-passed, accepted-one}
-use Rattle.fibonacci.specs.Tables.{Order, bounded}
+use Rattle.calls.proofs.Checks.{number-is, check-passed, then-passed, accepted-one}
+use Rattle.calls.specs.declared.Refusal.{Refusal}
+use Rattle.calls.specs.declared.Refusal.the-variants.{TooMuchInput, BadLine}
+use Rattle.calls.specs.Refusals.{reason}
+use Rattle.calls.specs.Calls.{Outcome, accepted, refused}
+use Rattle.calls.specs.Limits.{Legal, largest, longest, mostBytes, Order}
+use Rattle.fibonacci.specs.Tables.{bounded}
 use Rattle.codewords.proofs.Codewords.{stem-long}
 use Rattle.encoder.specs.Writing.{write}
 use Rattle.encoder.proofs.Writing.{write-is}
@@ -29,9 +33,9 @@ pub list-written : (m : ℕ) (row : List ℕ) (bytes bits : ℕ) → accepted (b
 unfolding listingOf
 list-written m row bytes bits e = rw (← e) refl
 
-pub list-refused : (m : ℕ) (row : List ℕ) (number place : ℕ) → refused number place ≡ write m row mostBytes → refusalLine number ≡ printed (listingOf m row)
+pub list-refused : (m : ℕ) (row : List ℕ) (r : Refusal) → refused r ≡ write m row mostBytes → refusalLine (reason r .0) ≡ printed (listingOf m row)
 unfolding listingOf
-list-refused m row number place e = rw (← e) refl
+list-refused m row r e = rw (← e) refl
 
 -- ## The text of an input
 
@@ -74,10 +78,10 @@ unfolding text listing
 text-fits s = by (listing s) refl
   where
     by : (o : Outcome (List ℕ)) → listing s ≡ o → length (printed o) ≤ mostText
-    by (refused number place) e = omega (arith, refusal-length number)
+    by (refused r) e = omega (arith, refusal-length (reason r .0))
     by (accepted t) e =
-        let p4 = check-passed 4 0 (ltb mostInput (length s)) _ t e in
-        let p13 = check-passed 13 0 (not (isInput s)) _ t (p4 .1) in
+        let p4 = check-passed TooMuchInput (ltb mostInput (length s)) _ t e in
+        let p13 = check-passed BadLine (not (isInput s)) _ t (p4 .1) in
         list-fits _ _ t (p13 .1)
 
 -- ## Digits

@@ -8,9 +8,12 @@ use native.Mathlib.Decide.{decLe}
 use lib.Dec.{leb, ltb}
 use lib.ListN.{length, getD, take, drop, length-map}
 use borrow.Author.Tests.{lt-leb}
-use Rattle.fibonacci.specs.Calls.{Outcome, accepted, refused, check, andThen, within, isOrder, isNumber, Legal, largest, longest, checkEach}
+use Rattle.calls.proofs.Checks.{order-is, number-is, above-number, each-accepted, each-refused}
+use Rattle.calls.specs.declared.Refusal.{Refusal}
+use Rattle.calls.specs.declared.Refusal.the-variants.{BadOrder, BadNumber, TooManyNumbers}
+use Rattle.calls.specs.Calls.{Outcome, accepted, refused, check, andThen}
+use Rattle.calls.specs.Limits.{within, isOrder, isNumber, Legal, largest, longest, checkEach}
 use Rattle.fibonacci.specs.Tables.{bounded}
-use Rattle.fibonacci.proofs.Checks.{order-is, number-is, above-number, each-accepted, each-refused}
 use Rattle.fibonacci.proofs.Lookup.{bounded-is, bounded-not}
 use Rattle.encoder.specs.Writing.{write}
 use Rattle.listing_lines.specs.Lines.{lines}
@@ -38,39 +41,39 @@ row-same : (row : List ℕ) → Legal largest row → map bounded row ≡ row
 row-same [] a = refl
 row-same (n ∷ row) a = ap₂ _∷_ (bounded-is n (number-is largest n (a .0) .1)) (row-same row (a .1))
 
-each-same : {A : Type 0} (place : ℕ) (row : List ℕ) (next : Outcome A) → checkEach 3 largest place (map bounded row) next ≡ checkEach 3 largest place row next
+each-same : {A : Type 0} (place : ℕ) (row : List ℕ) (next : Outcome A) → checkEach BadNumber largest place (map bounded row) next ≡ checkEach BadNumber largest place row next
 unfolding checkEach
 each-same place [] next = refl
 each-same place (n ∷ row) next =
-    ap₂ (λ (t : Bool) (o : Outcome _). check 3 place (not t) o) (number-same n) (each-same (suc place) row next)
+    ap₂ (λ (t : Bool) (o : Outcome _). check (BadNumber place) (not t) o) (number-same n) (each-same (suc place) row next)
 
 -- ## The listing of a row
 
 -- a number is at fault: whatever it is, the listing is refused
-list-fault : (m : ℕ) (row : List ℕ) (k at : ℕ) → checkEach {A = ℕ} 3 largest 0 row (accepted 0) ≡ refused k at
-    → listingOf m row ≡ check 1 0 (not (isOrder m)) (check 4 0 (ltb longest (length row)) (refused k at))
+list-fault : (m : ℕ) (row : List ℕ) (r : Refusal) → checkEach {A = ℕ} BadNumber largest 0 row (accepted 0) ≡ refused r
+    → listingOf m row ≡ check BadOrder (not (isOrder m)) (check TooManyNumbers (ltb longest (length row)) (refused r))
 unfolding listingOf write
-list-fault m row k at e =
-    ap (λ (o : Outcome (ℕ × ℕ)). andThen (check 1 0 (not (isOrder m)) (check 4 0 (ltb longest (length row)) o)) (λ x. accepted (lines m row (x .0))))
-    (each-refused 3 largest 0 row 0 k at _ e)
+list-fault m row r e =
+    ap (λ (o : Outcome (ℕ × ℕ)). andThen (check BadOrder (not (isOrder m)) (check TooManyNumbers (ltb longest (length row)) o)) (λ x. accepted (lines m row (x .0))))
+    (each-refused BadNumber largest 0 row 0 r _ e)
     ∙ none (not (isOrder m)) (ltb longest (length row)) _
   where
-    none : (t u : Bool) (next : ℕ × ℕ → Outcome (List ℕ)) → andThen (check 1 0 t (check 4 0 u (refused k at))) next ≡ check 1 0 t (check 4 0 u (refused k at))
+    none : (t u : Bool) (next : ℕ × ℕ → Outcome (List ℕ)) → andThen (check BadOrder t (check TooManyNumbers u (refused r))) next ≡ check BadOrder t (check TooManyNumbers u (refused r))
     none true u next = refl
     none false true next = refl
     none false false next = refl
 
 list-row : (m : ℕ) (row : List ℕ) → listingOf m (map bounded row) ≡ listingOf m row
-list-row m row = by (checkEach {A = ℕ} 3 largest 0 row (accepted 0)) refl
+list-row m row = by (checkEach {A = ℕ} BadNumber largest 0 row (accepted 0)) refl
   where
-    by : (o : Outcome ℕ) → checkEach {A = ℕ} 3 largest 0 row (accepted 0) ≡ o → listingOf m (map bounded row) ≡ listingOf m row
-    by (accepted x) e = ap (listingOf m) (row-same row (each-accepted 3 largest 0 row _ x e .0))
-    by (refused k at) e =
-        list-fault m (map bounded row) k at (each-same 0 row (accepted 0) ∙ e)
-        ∙ ap (λ (n : ℕ). check 1 0 (not (isOrder m)) (check 4 0 (ltb longest n) (refused k at))) (length-map row bounded)
-        ∙ sym (list-fault m row k at e)
+    by : (o : Outcome ℕ) → checkEach {A = ℕ} BadNumber largest 0 row (accepted 0) ≡ o → listingOf m (map bounded row) ≡ listingOf m row
+    by (accepted x) e = ap (listingOf m) (row-same row (each-accepted BadNumber largest 0 row _ x e .0))
+    by (refused r) e =
+        list-fault m (map bounded row) r (each-same 0 row (accepted 0) ∙ e)
+        ∙ ap (λ (n : ℕ). check BadOrder (not (isOrder m)) (check TooManyNumbers (ltb longest n) (refused r))) (length-map row bounded)
+        ∙ sym (list-fault m row r e)
 
-list-order : (m : ℕ) (row : List ℕ) → isOrder m ≡ false → listingOf m row ≡ refused 1 0
+list-order : (m : ℕ) (row : List ℕ) → isOrder m ≡ false → listingOf m row ≡ refused BadOrder
 unfolding listingOf write
 list-order m row o = rw o refl
 

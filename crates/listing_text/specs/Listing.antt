@@ -7,7 +7,11 @@ use lib.Dec.{ltb}
 use lib.ListN.{length, getD, drop}
 use Rattle.columns.specs.Columns.{ascii, column, decimal}
 use Rattle.fibonacci.specs.Code.{codeword}
-use Rattle.fibonacci.specs.Calls.{Outcome, accepted, refused, check, andThen, buffer, mostBytes}
+use Rattle.calls.specs.declared.Refusal.the-variants.{TooMuchInput, BadLine, NoRoom}
+use Rattle.calls.specs.declared.CountAnswer.{CountAnswer}
+use Rattle.calls.specs.Refusals.{reason}
+use Rattle.calls.specs.Calls.{Outcome, accepted, refused, check, andThen, buffer, countOutcome}
+use Rattle.calls.specs.Limits.{mostBytes}
 use Rattle.encoder.specs.Writing.{write}
 use Rattle.listing_input.specs.Input.{mostInput, fields, isInput}
 use Rattle.listing_lines.specs.Lines.{lines}
@@ -28,14 +32,14 @@ listingOf m row = andThen (write m row mostBytes) (λ x. accepted (lines m row (
 -- others are the row
 unfoldable pub listing : List ℕ → Outcome (List ℕ)
 listing s =
-    check 4 0 (ltb mostInput (length s))
-    (check 13 0 (not (isInput s))
+    check TooMuchInput (ltb mostInput (length s))
+    (check BadLine (not (isInput s))
     (listingOf (getD (fields s) 0 0) (drop 1 (fields s))))
 
 -- What is printed of a listing or a refusal
 abbrev pub printed : Outcome (List ℕ) → List ℕ
 printed (accepted t) = t
-printed (refused number place) = refusalLine number
+printed (refused r) = refusalLine (reason r .0)
 
 unfoldable pub text : List ℕ → List ℕ
 text s = printed (listing s)
@@ -43,10 +47,14 @@ text s = printed (listing s)
 -- ## A text in a lent buffer: 5 the buffer is shorter; else how many bytes the text has
 
 unfoldable pub put : List ℕ → ℕ → Outcome ℕ
-put t room = check 5 0 (ltb room (length t)) (accepted (length t))
+put t room = check NoRoom (ltb room (length t)) (accepted (length t))
 
 unfoldable pub putInto : List ℕ → List ℕ → List ℕ
 putInto t before = buffer (put t (length before)) t before
+
+-- What is answered, and the buffer before and after
+abbrev pub Puts : List ℕ → List ℕ → CountAnswer → List ℕ → Type 0
+Puts t before answer after = (countOutcome answer ≡ put t (length before)) × (after ≡ putInto t before)
 
 -- ## What holds of every text
 

@@ -2,7 +2,7 @@
 use mathlib.Core.List.{List}
 use Prim.Native.Nat.{ℕ}
 use lib.Seq.{sets}
-use Rattle.fibonacci.specs.Calls.{Outcome}
+use Rattle.calls.specs.Calls.{Outcome}
 use Rattle.answers.specs.Answers.{five}
 
 -- The caller's list afterwards: the five numbers of the answer from its front on, as far as there is room, and what stood after them

@@ -44,21 +44,21 @@ pub extern "C" fn probe_write(order: usize, row: &[u32], out: &mut [u8], answer:
 pub extern "C" fn probe_read(order: usize, s: &[u8], out: &mut [u32], answer: &mut [u64])
     ensures { λ r. ⌜ (now (answer .exit) ≡ told (single (read order (now (s .entry)) (length (now (out .entry))))) (now (answer .entry))) × (now (out .exit) ≡ readInto order (now (s .entry)) (now (out .entry))) ⌝ }
 {
-    tell(answer, answers::of_read(decoder::read(order, s, out)));
+    tell(answer, answers::of_count(decoder::read(order, s, out)));
 }
 
 #[no_mangle]
 pub extern "C" fn probe_table_read(s: &[u8], out: &mut [u32], answer: &mut [u64])
     ensures { λ r. ⌜ (now (answer .exit) ≡ told (single (read 3 (now (s .entry)) (length (now (out .entry))))) (now (answer .entry))) × (now (out .exit) ≡ readInto 3 (now (s .entry)) (now (out .entry))) ⌝ }
 {
-    tell(answer, answers::of_read(table_decoder::read(s, out)));
+    tell(answer, answers::of_count(table_decoder::read(s, out)));
 }
 
 #[no_mangle]
 pub extern "C" fn probe_table_read_bytes(s: &[u8], out: &mut [u8], answer: &mut [u64])
     ensures { λ r. ⌜ (now (answer .exit) ≡ told (single (readBytes (now (s .entry)) (length (now (out .entry))))) (now (answer .entry))) × (now (out .exit) ≡ readBytesInto (now (s .entry)) (now (out .entry))) ⌝ }
 {
-    tell(answer, answers::of_read(table_decoder::read_bytes(s, out)));
+    tell(answer, answers::of_count(table_decoder::read_bytes(s, out)));
 }
 
 #[no_mangle]
@@ -90,7 +90,7 @@ pub extern "C" fn probe_repeated_total(order: usize, s: &[u8], repeats: u64, ans
 {
     tell(
         answer,
-        answers::of_repeated_total(totals::repeated_total(order, s, repeats)),
+        answers::of_total(totals::repeated_total(order, s, repeats)),
     );
 }
 
@@ -106,7 +106,7 @@ pub extern "C" fn probe_build(
 {
     tell(
         answer,
-        answers::of_build(wavelet_build::build(order, alphabet, row, out)),
+        answers::of_count(wavelet_build::build(order, alphabet, row, out)),
     );
 }
 
@@ -123,7 +123,7 @@ pub extern "C" fn probe_extract(
 {
     tell(
         answer,
-        answers::of_extract(wavelet_query::extract(order, alphabet, len, index, i)),
+        answers::of_question(wavelet_query::extract(order, alphabet, len, index, i)),
     );
 }
 
@@ -141,7 +141,7 @@ pub extern "C" fn probe_rank(
 {
     tell(
         answer,
-        answers::of_rank(wavelet_query::rank(order, alphabet, len, index, n, i)),
+        answers::of_question(wavelet_query::rank(order, alphabet, len, index, n, i)),
     );
 }
 
@@ -159,7 +159,7 @@ pub extern "C" fn probe_select(
 {
     tell(
         answer,
-        answers::of_select(wavelet_select::select(order, alphabet, len, index, n, j)),
+        answers::of_question(wavelet_query::select(order, alphabet, len, index, n, j)),
     );
 }
 
@@ -167,8 +167,5 @@ pub extern "C" fn probe_select(
 pub extern "C" fn probe_listing(input: &[u8], out: &mut [u8], answer: &mut [u64])
     ensures { λ r. ⌜ (now (answer .exit) ≡ told (single (put (text (now (input .entry))) (length (now (out .entry))))) (now (answer .entry))) × (now (out .exit) ≡ putInto (text (now (input .entry))) (now (out .entry))) ⌝ }
 {
-    tell(
-        answer,
-        answers::of_listing(listing_text::listing(input, out)),
-    );
+    tell(answer, answers::of_count(listing_text::listing(input, out)));
 }

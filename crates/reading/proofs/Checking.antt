@@ -1,23 +1,26 @@
 -- When the checks of reading refuse, by the numbers of the codewords that have ended and by what is pending. Any reader uses them.
 use mathlib.Core.Path.{_≡_, refl, sym, ap, _∙_}
-use mathlib.Core.Bool.{Bool, true, false, _&&_, true≢false}
-use mathlib.Core.List.{List, [], _∷_, _++_, append-nil, map}
+use mathlib.Core.Bool.{Bool, true, false, _&&_, true≢false, or-true}
+use mathlib.Core.List.{List, [], _∷_, _++_, map}
 use mathlib.Core.Logic.{_⊎_, inl, inr}
 use Prim.Native.Nat.{ℕ, zero, suc, _+_, _≤_, _<_}
 use native.Mathlib.Omega.{arith}
-use native.Mathlib.Nat.{add-zero}
 use native.Mathlib.Decide.{decLe}
 use lib.Dec.{leb, ltb, eqb}
 use lib.ListN.{length, length-append, length-replicate}
 use borrow.Author.Tests.{le-leb, lt-leb, lt-ltb, eq-eqb, ltb-true, eqb-true}
-use Rattle.bits.specs.Bits.{count}
+use Rattle.bits.specs.Bits.{unpack, count}
 use Rattle.bits.proofs.Count.{count-append}
 use Rattle.fibonacci.specs.Code.{ones, value, first, number}
 use Rattle.fibonacci.specs.Encoding.{parsed, parse, numbers}
-use Rattle.fibonacci.specs.Calls.{Outcome, accepted, refused, check, isNumber, Legal, largest, longest}
-use Rattle.fibonacci.proofs.Checks.{both, number-is, above-number}
+use Rattle.calls.specs.declared.Refusal.the-variants.{TooManyCodewords, TooLarge, BadRest}
+use Rattle.calls.specs.Calls.{accepted, refused, check}
+use Rattle.calls.specs.Limits.{isNumber, Legal, largest, longest}
+use Rattle.calls.specs.Reading.{contents}
+use Rattle.calls.proofs.Checks.{both, number-is, above-number}
+use Rattle.calls.proofs.Finished.{finished-all, finished-many, finished-large, finished-past}
 use Rattle.fibonacci.proofs.Numeration.{F-pos}
-use Rattle.reading.specs.Reading.{checkFinished, checkRest, contents}
+use Rattle.reading.specs.Reading.{spoilt, fibonacci}
 
 -- ## Pending bits at the end
 
@@ -77,92 +80,48 @@ module _ (m : ℕ) (stem : List Bool) (len val run : ℕ) (pos : 1 ≤ m) (short
             ]
       ]
 
--- ## The checks from the left
+-- ## What the contents of an encoding are refused for
 
-finished-more : {A : Type 0} (limit i : ℕ) (xs ys : List ℕ) (next : Outcome A) → Legal limit xs → i + length xs ≤ longest
-    → checkFinished limit i (xs ++ ys) next ≡ checkFinished limit (i + length xs) ys next
-unfolding checkFinished
-finished-more limit i [] ys next a h = ap (λ (k : ℕ). checkFinished limit k ys next) (sym (add-zero i))
-finished-more limit i (x ∷ xs) ys next a h =
-    let k : suc i + length xs ≡ i + suc (length xs) = omega arith in
-    simp (lt-leb longest i (omega arith), a .0) (finished-more limit (suc i) xs ys next (a .1) (omega arith)
-    ∙ ap (λ (k : ℕ). checkFinished limit k ys next) k)
+-- the rest
+spoilt-bad : (r : List Bool) → (8 ≤ length r) ⊎ (1 ≤ count true r) → spoilt r ≡ true
+spoilt-bad r (inl l) = simp (le-leb 8 (length r) l)
+spoilt-bad r (inr c) = rw (le-leb 1 (count true r) c) (or-true (leb 8 (length r)))
 
-finished-at : {A : Type 0} (limit i : ℕ) (xs ys : List ℕ) (next : Outcome A) → Legal limit xs → length xs ≡ i → i ≤ longest
-    → checkFinished limit 0 (xs ++ ys) next ≡ checkFinished limit i ys next
-finished-at limit i xs ys next a l h =
-    let e : 0 + length xs ≡ i = omega arith in
-    rw (← e) (finished-more limit 0 xs ys next a (omega arith))
-
-pub finished-all : {A : Type 0} (limit : ℕ) (xs : List ℕ) (next : Outcome A) → Legal limit xs → length xs ≤ longest
-    → checkFinished limit 0 xs next ≡ next
-unfolding checkFinished
-finished-all limit xs next a h =
-    ap (λ (ns : List ℕ). checkFinished limit 0 ns next) (sym (append-nil xs)) ∙ finished-at limit (length xs) xs [] next a refl h
-
-finished-many : {A : Type 0} (limit i x : ℕ) (xs : List ℕ) (next : Outcome A) → i ≡ longest → checkFinished limit i (x ∷ xs) next ≡ refused 4 0
-unfolding checkFinished
-finished-many limit i x xs next h = simp (le-leb longest i (omega arith))
-
-finished-large : {A : Type 0} (limit i x : ℕ) (xs : List ℕ) (next : Outcome A) → i < longest → isNumber limit x ≡ false → checkFinished limit i (x ∷ xs) next ≡ refused 7 i
-unfolding checkFinished
-finished-large limit i x xs next h e = simp (lt-leb longest i h, e)
-
--- numbers that are all legal are too many
-finished-past : {A : Type 0} (limit i : ℕ) (xs ys : List ℕ) (next : Outcome A) → Legal limit xs → i ≤ longest → longest < i + length xs
-    → checkFinished limit i (xs ++ ys) next ≡ refused 4 0
-unfolding checkFinished
-finished-past limit i [] ys next a k h = absurd (omega arith)
-finished-past limit i (x ∷ xs) ys next a k h =
-    elim (decLe longest i) [
-      | yes l ↦ simp (le-leb longest i l)
-      | no l ↦ simp (lt-leb longest i (omega arith), a .0) (finished-past limit (suc i) xs ys next (a .1) (omega arith) (omega arith))
-    ]
-
--- the two checks of the rest
-check-same : {A : Type 0} (t : Bool) → check {A = A} 6 0 t (refused 6 0) ≡ refused 6 0
-check-same true = refl
-check-same false = refl
-
-pub rest-good : {A : Type 0} (r : List Bool) (next : Outcome A) → length r < 8 → count true r ≡ 0
-    → checkRest r next ≡ next
-rest-good r next l c = simp (lt-leb 8 (length r) l, lt-leb 1 (count true r) (omega arith))
-
-rest-bad : {A : Type 0} (r : List Bool) (next : Outcome A) → (8 ≤ length r) ⊎ (1 ≤ count true r)
-    → checkRest r next ≡ refused 6 0
-rest-bad r next (inl l) = simp (le-leb 8 (length r) l)
-rest-bad r next (inr c) = rw (le-leb 1 (count true r) c) (check-same (leb 8 (length r)))
-
--- ## What the contents of bits are refused for
+pub spoilt-not : (r : List Bool) → length r < 8 → count true r ≡ 0 → spoilt r ≡ false
+spoilt-not r l c = simp (lt-leb 8 (length r) l, lt-leb 1 (count true r) (omega arith))
 
 -- The numbers `done` have passed their checks, and what comes after them decides
-module _ (limit m : ℕ) (b : List Bool) (done : List ℕ) (legal : Legal limit done) where
-  pub contents-many : (x : ℕ) (more : List ℕ) → numbers m b ≡ done ++ (x ∷ more) → length done ≡ longest → contents limit m b ≡ refused 4 0
+module _ (limit m : ℕ) (s done : List ℕ) (legal : Legal limit done) where
+  abbrev b : List Bool
+  b = unpack s
+
+  pub contents-many : (x : ℕ) (more : List ℕ) → numbers m b ≡ done ++ (x ∷ more) → length done ≡ longest
+      → contents (fibonacci m) limit s ≡ refused TooManyCodewords
   unfolding contents
-  contents-many x more e l = rw e (finished-at limit longest done (x ∷ more) _ legal l (omega arith) ∙ finished-many limit longest x more _ refl)
+  contents-many x more e l = rw e (finished-many limit done legal _ x more l)
 
   pub contents-large : (x : ℕ) (more : List ℕ) → numbers m b ≡ done ++ (x ∷ more) → length done < longest → isNumber limit x ≡ false
-      → contents limit m b ≡ refused 7 (length done)
+      → contents (fibonacci m) limit s ≡ refused (TooLarge (length done))
   unfolding contents
-  contents-large x more e l n = rw e (finished-at limit (length done) done (x ∷ more) _ legal refl (omega arith) ∙ finished-large limit (length done) x more _ l n)
+  contents-large x more e l n = rw e (finished-large limit done legal _ x more l n)
 
-  pub contents-past : (more : List ℕ) → numbers m b ≡ done ++ more → longest < length done → contents limit m b ≡ refused 4 0
+  pub contents-past : (more : List ℕ) → numbers m b ≡ done ++ more → longest < length done → contents (fibonacci m) limit s ≡ refused TooManyCodewords
   unfolding contents
   contents-past more e l = rw e (finished-past limit 0 done more _ legal (omega arith) (omega arith))
 
   -- no codeword is left, and the rest decides
   contents-end : (words : List (List Bool)) (r : List Bool) → parse m b ≡ parsed words r → map (number m) words ≡ done → length done ≤ longest
-      → contents limit m b ≡ checkRest r (accepted done)
+      → contents (fibonacci m) limit s ≡ check BadRest (spoilt r) (accepted done)
   unfolding contents numbers
   contents-end words r e w l = rw (e, w) (finished-all limit done _ legal l)
 
   pub contents-rest : (words : List (List Bool)) (r : List Bool) → parse m b ≡ parsed words r → map (number m) words ≡ done → length done ≤ longest
-      → (8 ≤ length r) ⊎ (1 ≤ count true r) → contents limit m b ≡ refused 6 0
-  contents-rest words r e w l c = contents-end words r e w l ∙ rest-bad r _ c
+      → (8 ≤ length r) ⊎ (1 ≤ count true r) → contents (fibonacci m) limit s ≡ refused BadRest
+  contents-rest words r e w l c = contents-end words r e w l ∙ ap (λ (t : Bool). check BadRest t (accepted done)) (spoilt-bad r c)
 
   pub contents-good : (words : List (List Bool)) (r : List Bool) → parse m b ≡ parsed words r → map (number m) words ≡ done → length done ≤ longest
-      → length r < 8 → count true r ≡ 0 → contents limit m b ≡ accepted done
-  contents-good words r e w l s z = contents-end words r e w l ∙ rest-good r _ s z
+      → length r < 8 → count true r ≡ 0 → contents (fibonacci m) limit s ≡ accepted done
+  contents-good words r e w l h z = contents-end words r e w l ∙ ap (λ (t : Bool). check BadRest t (accepted done)) (spoilt-not r h z)
 
 -- ## A number by its length and its value
 

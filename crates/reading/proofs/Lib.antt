@@ -1,3 +1,4 @@
 pub mod Reached
 pub mod Checking
 pub mod Decoding
+pub mod Delivering

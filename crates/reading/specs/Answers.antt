@@ -1,31 +1,33 @@
--- The answers of the readers as paper 01's numbers and values.
+-- What readers of an encoding answer and leave behind: for their contracts.
 use mathlib.Core.Path.{_≡_}
 use mathlib.Core.List.{List}
-use Prim.Native.Nat.{ℕ}
-use lib.ListN.{length}
-use Rattle.fibonacci.specs.Calls.{Outcome, accepted, refused}
+use Prim.Native.Nat.{ℕ, _≤_}
+use lib.Dec.{ltb}
+use lib.ListN.{length, take}
+use Rattle.calls.specs.declared.Refusal.the-variants.{NoRoom}
+use Rattle.calls.specs.declared.CountAnswer.{CountAnswer}
+use Rattle.calls.specs.declared.CountAnswer.the-variants.{Count, Refused}
+use Rattle.calls.specs.Calls.{Outcome, accepted, refused, answerResults, check, andThen, buffer, countOutcome}
 use Rattle.reading.specs.Reading.{read, readInto}
-use Rattle.reading.specs.declared.Refusal.{Refusal}
-use Rattle.reading.specs.declared.Refusal.the-variants.{Order, Bytes, Count, Number, Rest}
-use Rattle.reading.specs.declared.ReadAnswer.{ReadAnswer}
-use Rattle.reading.specs.declared.ReadAnswer.the-variants.{Row, Refused, Room}
-
--- Why an encoding is not read: the refusal's number and place
-abbrev pub reason : Refusal → ℕ × ℕ
-reason Order = (1, 0)
-reason Bytes = (2, 0)
-reason Count = (4, 0)
-reason (Number place) = (7, place)
-reason Rest = (6, 0)
-
-abbrev pub refusal : {A : Type 0} → Refusal → Outcome A
-refusal r = refused (reason r .0) (reason r .1)
-
-abbrev pub readOutcome : ReadAnswer → Outcome ℕ
-readOutcome (Row count) = accepted count
-readOutcome (Refused r) = refusal r
-readOutcome Room = refused 5 0
 
 -- What a reader of order m promises of its answer, and of its output before and after
-abbrev pub ReadPromise : ℕ → List ℕ → List ℕ → ReadAnswer → List ℕ → Type 0
-ReadPromise m s before a after = (readOutcome a ≡ read m s (length before)) × (after ≡ readInto m s before)
+abbrev pub ReadPromise : ℕ → List ℕ → List ℕ → CountAnswer → List ℕ → Type 0
+ReadPromise m s before a after = (countOutcome a ≡ read m s (length before)) × (after ≡ readInto m s before)
+
+-- A list of the reader's own after its scan: where the scan accepts, it begins with the row
+abbrev pub Begins : Outcome (List ℕ) → List ℕ → Type 0
+Begins (accepted row) list = take (length row) list ≡ row
+Begins (refused r) list = Unit {0}
+
+-- A list has as many elements as were counted
+abbrev pub Holds : CountAnswer → ℕ → Type 0
+Holds (Count n) room = n ≤ room
+Holds (Refused r) room = Unit {0}
+
+-- The row goes from there to the output, if that has room: the answer, and the output before and after
+abbrev pub delivered : Outcome ℕ → ℕ → Outcome ℕ
+delivered scanned room = andThen scanned (λ n. check NoRoom (ltb room n) (accepted n))
+
+abbrev pub Delivers : CountAnswer → List ℕ → List ℕ → CountAnswer → List ℕ → Type 0
+Delivers scanned list before a after =
+    (countOutcome a ≡ delivered (countOutcome scanned) (length before)) × (after ≡ buffer (countOutcome a) (take (answerResults 0 (countOutcome a)) list) before)

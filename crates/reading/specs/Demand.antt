@@ -5,7 +5,7 @@ use Prim.Native.Nat.{ℕ}
 use lib.ListN.{length, drop}
 use Rattle.bits.specs.Bits.{unpack}
 use Rattle.fibonacci.specs.Encoding.{numbers}
-use Rattle.fibonacci.specs.Calls.{Outcome, accepted}
+use Rattle.calls.specs.Calls.{Outcome, accepted}
 
 -- A reader is what it answers for bytes and the length of its output, and its output afterwards. Where it accepts, it returns exactly the numbers of the
 -- parse of all the bits, and their count

@@ -1,38 +1,18 @@
-// What every reader of an encoding shares: what it answers, the number of a codeword that ends, and the padding.
+// What every reader of an encoding shares: the number of a codeword that ends, and the padding.
 ghost use mathlib.Core.Path.{_≡_};
 ghost use mathlib.Core.Bool.{_&&_};
 ghost use Prim.Native.Nat.{_+_, _^_, _≤_, _<_};
 ghost use lib.Dec.{eqb, ltb};
+ghost use lib.ListN.{length};
 ghost use Rattle.fibonacci.specs.Code.{first};
-ghost use Rattle.fibonacci.specs.Tables.{Order, tableRow};
-ghost use Rattle.fibonacci.specs.Calls.{largest};
-
-// Why an encoding is not read. The numbers are paper 01's.
-pub enum Refusal {
-    // 1: the order is not 2 to 6.
-    Order,
-    // 2: there are more than 24,064 bytes.
-    Bytes,
-    // 4: a 4,097th codeword ends.
-    Count,
-    // 7: the number at this place is above 4,294,967,295.
-    Number(usize),
-    // 6: the rest has 8 bits or more, or holds a one.
-    Rest,
-}
-
-pub enum ReadAnswer {
-    // How many numbers the row has.
-    Row(usize),
-    Refused(Refusal),
-    // 5: the output is shorter than the row.
-    Room,
-}
+ghost use Rattle.calls.specs.Limits.{largest};
+ghost use Rattle.reading.specs.Answers.{Holds, Delivers};
+ghost use Rattle.fibonacci.specs.Tables.{Firsts};
 
 // The number of a codeword by the bits before its last ones and their value; 0 where it is above 4,294,967,295 by its length alone. The readers check their
 // order before, and each bit or byte of an encoding adds little to a value.
 pub fn number(firsts: &[u32; 47], order: usize, len: usize, val: u64) -> u64
-    requires { ⌜ Order order × (now firsts ≡ tableRow (first order)) × (val < 2 ^ 63) ⌝ }
+    requires { ⌜ Firsts order (now firsts) × (val < 2 ^ 63) ⌝ }
     ensures { λ r. ⌜ (first order len ≤ largest → r ≡ first order len + val) × (largest < first order len → r ≡ 0) ⌝ }
 {
     let least = fibonacci::first_number(firsts, order, len);
@@ -44,4 +24,19 @@ pub fn is_padding(len: usize, val: u64, run: usize) -> bool
     ensures { λ r. ⌜ r ≡ (ltb len 8 && (eqb val 0 && eqb run 0)) ⌝ }
 {
     len < 8 && (val == 0 && run == 0)
+}
+
+// What a reader answers once it has scanned an encoding: the row goes from the list that the scan stored it in to the output. The readers' lists have room for
+// every row.
+pub fn deliver(scanned: calls::CountAnswer, row: &[u32], out: &mut [u32]) -> calls::CountAnswer
+    requires { ⌜ Holds scanned (length (now row)) ⌝ }
+    ensures { λ r. ⌜ Delivers scanned (now (row .entry)) (now (out .entry)) r (now (out .exit)) ⌝ }
+{
+    if let calls::CountAnswer::Count(count) = scanned {
+        if out.len() < count {
+            return calls::CountAnswer::Refused(calls::Refusal::NoRoom);
+        }
+        lists::copy(out, row, count);
+    }
+    scanned
 }

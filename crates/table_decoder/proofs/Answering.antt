@@ -1,6 +1,6 @@
 -- The answers, by what the scan found; and that the two readers agree.
-use mathlib.Core.Path.{_≡_, refl, sym, ap, ap₂, _∙_}
-use mathlib.Core.Bool.{Bool}
+use mathlib.Core.Path.{_≡_, refl, sym, ap, ap₂, _∙_, subst}
+use mathlib.Core.Bool.{Bool, true}
 use mathlib.Core.List.{List, [], _∷_, _++_, flatten}
 use Prim.Native.Nat.{ℕ, _+_, _*_, _/_, _≤_, _<_}
 use native.Mathlib.Omega.{arith}
@@ -9,33 +9,29 @@ use native.Mathlib.Decide.{decLe}
 use lib.Dec.{ltb}
 use lib.ListN.{length, getD, take, drop, length-append, length-take, length-drop}
 use lib.Seq.{sets, sets-eq, take-suc, take-at, drop-append-add, drop-drop}
-use borrow.Author.Tests.{lt-ltb, le-ltb, ltb-false}
+use borrow.Author.Tests.{lt-ltb, le-ltb}
 use Rattle.bits.specs.Bits.{unpack}
 use Rattle.bits.proofs.Lists.{flatten-map-append}
 use Rattle.fibonacci.specs.Encoding.{numbers}
-use Rattle.fibonacci.specs.Calls.{Outcome, accepted, refused, check, andThen}
-use Rattle.fibonacci.proofs.Checks.{check-passed, then-passed, not-both, accepted-one, refused-same}
-use Rattle.reading.specs.declared.Refusal.{Refusal}
-use Rattle.reading.specs.Answers.{refusal}
-use Rattle.reading.specs.Reading.{decode, read}
-use Rattle.reading.proofs.Decoding.{decode-is, read-parse}
-use Rattle.table_scan.specs.declared.RowAnswer.{RowAnswer}
-use Rattle.table_scan.specs.declared.RowAnswer.the-variants.{Row, Refused}
-use Rattle.table_scan.specs.Answers.{rowOutcome, Begins}
+use Rattle.calls.specs.declared.Refusal.{Refusal}
+use Rattle.calls.specs.declared.Refusal.the-variants.{NoRoom}
+use Rattle.calls.specs.declared.CountAnswer.{CountAnswer}
+use Rattle.calls.specs.declared.CountAnswer.the-variants.{Count, Refused}
+use Rattle.calls.specs.Calls.{Outcome, accepted, refused, check, andThen, countOutcome}
+use Rattle.calls.specs.Limits.{isOrder, largest}
+use Rattle.calls.specs.Reading.{decode, counted}
+use Rattle.calls.proofs.Checks.{told-accepted, told-refused}
+use Rattle.reading.specs.Reading.{fibonacci, read}
+use Rattle.reading.specs.Answers.{Begins}
+use Rattle.reading.proofs.Decoding.{decode-is, read-is, read-parse}
+use Rattle.table_scan.specs.Answers.{Scanned}
 use Rattle.table_decoder.specs.Reading.{numberBytes, rowBytes, readBytes, readBytesInto}
 use Rattle.table_decoder.specs.Demand.{TwoReaders}
 
--- ## What the scan found
-
--- a row, with which the list begins
-pub row-found : (d : Outcome (List ℕ)) (count : ℕ) (list : List ℕ) {r : RowAnswer} → r ≡ Row count → rowOutcome r ≡ andThen d (λ row. accepted (length row)) → Begins d list
-    → (row : List ℕ) × (d ≡ accepted row) × (count ≡ length row) × (take (length row) list ≡ row)
-row-found (accepted row) count list t e b = (row, refl, accepted-one (ap rowOutcome (sym t) ∙ e), b)
-row-found (refused n p) count list t e b = absurd (not-both (sym (ap rowOutcome (sym t) ∙ e)))
-
-pub row-refused : (d : Outcome (List ℕ)) (x : Refusal) {r : RowAnswer} → r ≡ Refused x → rowOutcome r ≡ andThen d (λ row. accepted (length row)) → d ≡ refusal x
-row-refused (accepted row) x t e = absurd (not-both (ap rowOutcome (sym t) ∙ e))
-row-refused (refused n p) x t e = sym (refused-same (ap rowOutcome (sym t) ∙ e))
+-- check 1 passes
+pub order-3 : isOrder 3 ≡ true
+unfolding isOrder
+order-3 = refl
 
 -- ## Numbers as bytes
 
@@ -67,21 +63,34 @@ bytes-more row out i h k =
 
 -- ## Reading into bytes
 
-module _ (s before row : List ℕ) (e : decode 3 s ≡ accepted row) where
-  pub bytes-row : 4 * length row ≤ length before
-      → (accepted (length row) ≡ readBytes s (length before)) × (rowBytes row ++ drop (4 * length row) before ≡ readBytesInto s before)
-  unfolding readBytes readBytesInto
-  bytes-row h =
-      let a : accepted (length row) ≡ readBytes s (length before) = rw e (simp (le-ltb (length before) (4 * length row) h)) in
-      (a, rw (← a, ← decode-is 3 s row e .is, bytes-long row) refl)
+abbrev Answers : List ℕ → List ℕ → CountAnswer → List ℕ → Type 0
+Answers s before a after = (countOutcome a ≡ readBytes s (length before)) × (after ≡ readBytesInto s before)
 
-  pub bytes-room : length before < 4 * length row → (refused 5 0 ≡ readBytes s (length before)) × (before ≡ readBytesInto s before)
-  unfolding readBytes readBytesInto
-  bytes-room h = let a : refused 5 0 ≡ readBytes s (length before) = rw e (simp (lt-ltb (length before) (4 * length row) h)) in (a, rw (← a) refl)
+module _ (s list : List ℕ) (scanned : CountAnswer) (found : Scanned (decode (fibonacci 3) largest s) scanned list) where
+  -- the scan found a row
+  module _ (count : ℕ) (is : scanned ≡ Count count) where
+    row-found : (row : List ℕ) × (decode (fibonacci 3) largest s ≡ accepted row) × (count ≡ length row) × (take (length row) list ≡ row)
+    row-found =
+        let t = told-accepted (decode (fibonacci 3) largest s) length count (sym (ap countOutcome is) ∙ found .0) in
+        (t .0, t .1, t .2, subst (λ (d : Outcome (List ℕ)). Begins d list) (t .1) (found .1))
 
-pub bytes-refused : (s before : List ℕ) (n p : ℕ) → decode 3 s ≡ refused n p → (refused n p ≡ readBytes s (length before)) × (before ≡ readBytesInto s before)
-unfolding readBytes readBytesInto
-bytes-refused s before n p e = let a : refused n p ≡ readBytes s (length before) = rw e refl in (a, rw (← a) refl)
+    pub row-fits : count ≤ 4096
+    row-fits = let r = row-found in omega (arith, decode-is 3 largest s (r .0) (r .1) .long, r .2)
+
+    pub bytes-room : (before : List ℕ) → length before < 4 * count → Answers s before (Refused NoRoom) before
+    unfolding readBytes readBytesInto
+    bytes-room before h = let r = row-found in rw (r .1, lt-ltb (length before) (4 * length (r .0)) (omega (arith, r .2))) (refl, refl)
+
+    pub bytes-row : (before : List ℕ) → 4 * count ≤ length before → Answers s before (Count count) (rowBytes (take count list) ++ drop (4 * count) before)
+    unfolding readBytes readBytesInto
+    bytes-row before h =
+        let (row, e, n, b) = row-found in
+        let same : row ≡ numbers 3 (unpack s) = decode-is 3 largest s row e .is in
+        rw (n, b, e, le-ltb (length before) (4 * length row) (omega arith), ← same, bytes-long row) (refl, refl)
+
+  pub bytes-refused : (before : List ℕ) (r : Refusal) → scanned ≡ Refused r → Answers s before scanned before
+  unfolding readBytes readBytesInto
+  bytes-refused before r is = rw (is, told-refused (decode (fibonacci 3) largest s) length r (sym (ap countOutcome is) ∙ found .0)) (refl, refl)
 
 -- ## Demands 2 and 3
 
@@ -95,27 +104,25 @@ room-bytes room n =
 
 bytes-read : (s : List ℕ) (room : ℕ) → readBytes s room ≡ read 3 s (room / 4)
 unfolding readBytes read
-bytes-read s room = by (decode 3 s)
+bytes-read s room = rw order-3 (by (decode (fibonacci 3) largest s))
   where
-    by : (d : Outcome (List ℕ))
-        → andThen d (λ row. check 5 0 (ltb room (4 * length row)) (accepted (length row))) ≡ andThen d (λ row. check 5 0 (ltb (room / 4) (length row)) (accepted (length row)))
-    by (accepted row) = ap (λ (t : Bool). check 5 0 t (accepted (length row))) (room-bytes room (length row))
-    by (refused n p) = refl
+    by : (d : Outcome (List ℕ)) → andThen d (λ row. check NoRoom (ltb room (4 * length row)) (accepted (length row))) ≡ andThen d (counted (room / 4))
+    by (accepted row) = ap (λ (t : Bool). check NoRoom t (accepted (length row))) (room-bytes room (length row))
+    by (refused r) = refl
+
+bytes-written : (s before : List ℕ) (count : ℕ) → readBytes s (length before) ≡ accepted count
+    → (count ≡ length (numbers 3 (unpack s))) × (readBytesInto s before ≡ rowBytes (numbers 3 (unpack s)) ++ drop (4 * count) before)
+unfolding readBytesInto
+bytes-written s before count e =
+    let i = read-is 3 s (length before / 4) count (sym (bytes-read s (length before)) ∙ e) in
+    let n : count ≡ length (numbers 3 (unpack s)) = i .1 .2 ∙ ap length (decode-is 3 largest s (i .1 .0) (i .1 .1) .is) in
+    (n, rw (e, bytes-long, ← n) refl)
 
 pub two-readers : TwoReaders
-unfolding readBytes
 two-readers =
     record {
       agree = λ s before a b after after' p q. (p .0 ∙ sym (q .0), p .1 ∙ sym (q .1));
       agree-bytes = bytes-read;
       returns-parse = read-parse 3;
-      returns-bytes = λ s before count e.
-          let t = then-passed (decode 3 s) _ count e in
-          let c = check-passed 5 0 (ltb (length before) (4 * length (t .0))) _ count (t .2) in
-          let n : count ≡ length (t .0) = sym (accepted-one (c .1)) in
-          let same : t .0 ≡ numbers 3 (unpack s) = decode-is 3 s (t .0) (t .1) .is in (
-            n ∙ ap length same,
-            sym (bytes-row s before (t .0) (t .1) (ltb-false (length before) (4 * length (t .0)) (c .0)) .1)
-                ∙ ap₂ (λ (r : List ℕ) (k : ℕ). rowBytes r ++ drop (4 * k) before) same (sym n),
-          );
+      returns-bytes = bytes-written;
     }

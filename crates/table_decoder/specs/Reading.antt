@@ -6,8 +6,11 @@ use lib.Dec.{ltb}
 use lib.ListN.{length}
 use Rattle.bits.specs.Bits.{unpack}
 use Rattle.fibonacci.specs.Encoding.{numbers}
-use Rattle.fibonacci.specs.Calls.{Outcome, accepted, check, andThen, buffer}
-use Rattle.reading.specs.Reading.{decode}
+use Rattle.calls.specs.declared.Refusal.the-variants.{NoRoom}
+use Rattle.calls.specs.Calls.{Outcome, accepted, check, andThen, buffer}
+use Rattle.calls.specs.Limits.{largest}
+use Rattle.calls.specs.Reading.{decode}
+use Rattle.reading.specs.Reading.{fibonacci}
 
 -- A number of the row is four bytes, the lowest first
 abbrev pub numberBytes : ℕ → List ℕ
@@ -18,8 +21,8 @@ rowBytes row = flatten (map numberBytes row)
 
 -- Read into bytes: 5 there are fewer than four bytes for each number; else the count
 unfoldable pub readBytes : List ℕ → ℕ → Outcome ℕ
-readBytes s room = andThen (decode 3 s) (λ row.
-    check 5 0 (ltb room (4 * length row))
+readBytes s room = andThen (decode (fibonacci 3) largest s) (λ row.
+    check NoRoom (ltb room (4 * length row))
     (accepted (length row)))
 
 -- The output after reading

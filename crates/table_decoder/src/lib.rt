@@ -4,43 +4,38 @@ ghost use mathlib.Core.List.{_++_};
 ghost use Prim.Native.Nat.{_+_, _*_, _≤_};
 ghost use lib.ListN.{length, take, drop};
 ghost use lib.Seq.{sets};
-ghost use Rattle.fibonacci.specs.Calls.{accepted, andThen};
-ghost use Rattle.reading.specs.Reading.{decode};
-ghost use Rattle.reading.specs.Answers.{readOutcome, ReadPromise};
-ghost use Rattle.table_scan.specs.Answers.{rowOutcome, Begins};
+ghost use Rattle.calls.specs.Calls.{countOutcome};
+ghost use Rattle.calls.specs.Limits.{largest};
+ghost use Rattle.calls.specs.Reading.{decode};
+ghost use Rattle.reading.specs.Reading.{fibonacci};
+ghost use Rattle.reading.specs.Answers.{ReadPromise};
+ghost use Rattle.table_scan.specs.Answers.{Scanned};
 ghost use Rattle.table_decoder.specs.Reading.{numberBytes, rowBytes, readBytes, readBytesInto};
+use calls::CountAnswer;
+use calls::Refusal;
 
-// The scan of an encoding: its checks, and how many numbers the row has. The row goes to a list of the caller's own.
-fn scan_into(s: &[u8], row: &mut [u32; table_scan::ROOM]) -> table_scan::RowAnswer
-    requires { ⌜ length (now row) ≡ 4098 ⌝ }
-    ensures { λ r. ⌜ (rowOutcome r ≡ andThen (decode 3 (now (s .entry))) (λ row. accepted (length row))) × Begins (decode 3 (now (s .entry))) (now (row .exit)) × (length (now (row .exit)) ≡ 4098) ⌝ }
+// The scan of an encoding, whose numbers go up to a limit: its checks, and how many numbers the row has. The row goes to a list of the caller's own.
+fn scan_into(s: &[u8], limit: u64, row: &mut [u32; table_scan::ROOM]) -> CountAnswer
+    requires { ⌜ (limit ≤ largest) × (length (now row) ≡ 4098) ⌝ }
+    ensures { λ r. ⌜ Scanned (decode (fibonacci 3) limit (now (s .entry))) r (now (row .exit)) ⌝ }
 {
-    if s.len() > fibonacci::MOST_BYTES {
-        return table_scan::RowAnswer::Refused(reading::Refusal::Bytes);
+    if s.len() > calls::MOST_BYTES {
+        return CountAnswer::Refused(Refusal::TooManyBytes);
     }
     let heads = byte_table::heads();
     let tails = byte_table::tails();
     let positions = byte_table::positions();
     let firsts = fibonacci::first_numbers(3);
-    table_scan::walk(&heads, &tails, &positions, &firsts, s, row)
+    table_scan::walk(&heads, &tails, &positions, &firsts, s, limit, row)
 }
 
 // Reads an encoding of order 3. The row goes to a list of its own first, as a refusal must leave the output as it was.
-pub fn read(s: &[u8], out: &mut [u32]) -> reading::ReadAnswer
+pub fn read(s: &[u8], out: &mut [u32]) -> CountAnswer
     ensures { λ r. ⌜ ReadPromise 3 (now (s .entry)) (now (out .entry)) r (now (out .exit)) ⌝ }
 {
     let mut row: [u32; table_scan::ROOM] = [0; table_scan::ROOM];
-    let scanned = scan_into(s, &mut row);
-    match scanned {
-        table_scan::RowAnswer::Row(count) => {
-            if out.len() < count {
-                return reading::ReadAnswer::Room;
-            }
-            lists::copy(out, &row, count);
-            reading::ReadAnswer::Row(count)
-        }
-        table_scan::RowAnswer::Refused(r) => reading::ReadAnswer::Refused(r),
-    }
+    let scanned = scan_into(s, calls::LARGEST, &mut row);
+    reading::deliver(scanned, &row, out)
 }
 
 // A number as four bytes from byte i on, the lowest first.
@@ -65,19 +60,16 @@ fn put_row(out: &mut [u8], row: &[u32], n: usize)
 }
 
 // Reads an encoding of order 3 for a host that takes each number as four bytes, the lowest first.
-pub fn read_bytes(s: &[u8], out: &mut [u8]) -> reading::ReadAnswer
-    ensures { λ r. ⌜ (readOutcome r ≡ readBytes (now (s .entry)) (length (now (out .entry)))) × (now (out .exit) ≡ readBytesInto (now (s .entry)) (now (out .entry))) ⌝ }
+pub fn read_bytes(s: &[u8], out: &mut [u8]) -> CountAnswer
+    ensures { λ r. ⌜ (countOutcome r ≡ readBytes (now (s .entry)) (length (now (out .entry)))) × (now (out .exit) ≡ readBytesInto (now (s .entry)) (now (out .entry))) ⌝ }
 {
     let mut row: [u32; table_scan::ROOM] = [0; table_scan::ROOM];
-    let scanned = scan_into(s, &mut row);
-    match scanned {
-        table_scan::RowAnswer::Row(count) => {
-            if out.len() < 4 * count {
-                return reading::ReadAnswer::Room;
-            }
-            put_row(out, &row, count);
-            reading::ReadAnswer::Row(count)
+    let scanned = scan_into(s, calls::LARGEST, &mut row);
+    if let CountAnswer::Count(count) = scanned {
+        if out.len() < 4 * count {
+            return CountAnswer::Refused(Refusal::NoRoom);
         }
-        table_scan::RowAnswer::Refused(r) => reading::ReadAnswer::Refused(r),
+        put_row(out, &row, count);
     }
+    scanned
 }

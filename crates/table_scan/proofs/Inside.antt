@@ -2,15 +2,14 @@
 use mathlib.Core.Path.{_≡_, refl, sym, ap, _∙_}
 use mathlib.Core.Bool.{Bool}
 use mathlib.Core.List.{List, [], _∷_, _++_, map}
-use Prim.Native.Nat.{ℕ, suc, _+_, _≤_, _<_}
+use Prim.Native.Nat.{ℕ, suc, _+_, _≤_}
 use native.Mathlib.Omega.{arith}
 use lib.ListN.{length, getD, take, drop, length-append, length-take}
 use lib.Seq.{sets, sets-eq, take-append-le, take-append-add}
 use Rattle.fibonacci.specs.Code.{Codeword, number}
-use Rattle.fibonacci.specs.Encoding.{All, Positive, Parse, parsed, codewords, rest}
-use Rattle.fibonacci.specs.Calls.{Legal, largest}
+use Rattle.calls.specs.Limits.{All}
+use Rattle.fibonacci.specs.Encoding.{Positive, Parse, parsed, codewords, rest}
 use Rattle.fibonacci.proofs.Numbers.{codeword-number}
-use Rattle.fibonacci.proofs.Checks.{is-number}
 
 -- ## Parses with and without a codeword
 
@@ -33,12 +32,6 @@ few-are (a ∷ b ∷ c ∷ ns) h = absurd (omega arith)
 
 pub first-three : {a b c a' b' c' : ℕ} → a ≡ a' → b ≡ b' → c ≡ c' → (n : ℕ) → take (suc n) (a ∷ b ∷ c ∷ []) ≡ a' ∷ take n (b' ∷ c' ∷ [])
 first-three a b c n = rw (a, b, c) refl
-
-pub few-legal : (ns : List ℕ) → length ns ≤ 2 → Positive ns → getD ns 0 0 < 16 → getD ns 1 0 < 16 → Legal largest ns
-few-legal [] h p a b = tt
-few-legal (x ∷ []) h p a b = (is-number largest x (p .0) (omega arith), tt)
-few-legal (x ∷ y ∷ []) h p a b = (is-number largest x (p .0) (omega arith), (is-number largest y (p .1 .0) (omega arith), tt))
-few-legal (x ∷ y ∷ z ∷ ns) h p a b = absurd (omega arith)
 
 -- the first of them after those of a list, where three are set
 pub taken : (row new : List ℕ) (count n : ℕ) → count + length new ≤ length row → n ≤ length new → take (count + n) (sets row count new) ≡ take count row ++ take n new

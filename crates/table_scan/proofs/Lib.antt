@@ -1,3 +1,4 @@
+pub mod Refusing
 pub mod Inside
 pub mod Stepping
 pub mod Walking

@@ -13,7 +13,7 @@ use Rattle.bits.specs.Bits.{wordBits, unpack}
 use Rattle.bits.proofs.Bytes.{unpack-drop}
 use Rattle.fibonacci.specs.Code.{past, F, ones, runs, value, first, number}
 use Rattle.fibonacci.specs.Encoding.{parsed, IsParse, parse}
-use Rattle.fibonacci.specs.Calls.{largest}
+use Rattle.calls.specs.Limits.{largest}
 use Rattle.fibonacci.proofs.Runs.{few-ones}
 use Rattle.fibonacci.proofs.Parse.{parse-is}
 use Rattle.fibonacci.proofs.Numbers.{first-rises, value-append, number-of}

@@ -12,16 +12,22 @@ use lib.Seq.{sets, length-sets}
 use Rattle.bits.specs.Bits.{wordBits, unpack}
 use Rattle.bits.proofs.Bytes.{unpack-length}
 use Rattle.fibonacci.specs.Code.{ones, first, number}
-use Rattle.fibonacci.specs.Encoding.{Parse, parsed, rest, IsParse, parse, numbers}
-use Rattle.fibonacci.specs.Calls.{accepted, refused, isNumber, Legal, largest, longest}
+use Rattle.fibonacci.specs.Encoding.{Positive, Parse, parsed, rest, IsParse, parse, numbers}
+use Rattle.calls.specs.declared.Refusal.the-variants.{TooManyCodewords, BadRest}
+use Rattle.calls.specs.Calls.{accepted, refused}
+use Rattle.calls.specs.Limits.{isNumber, Legal, largest, longest}
+use Rattle.calls.specs.Reading.{contents}
+use Rattle.calls.proofs.Each.{all-append}
+use Rattle.calls.proofs.Checks.{number-is}
 use Rattle.fibonacci.proofs.Parse.{parse-is}
 use Rattle.byte_table.specs.declared.Row.{Row}
 use Rattle.byte_table.specs.Table.{stem, trail, after, front, inside, byF, byF1, byF2, moved, rowOf, rowAt, Small}
-use Rattle.reading.specs.Reading.{contents}
+use Rattle.reading.specs.Reading.{fibonacci}
 use Rattle.reading.proofs.Reached.{Reached, reached-start, reached-open, reached-shut, reached-numbers, reached-end}
-use Rattle.fibonacci.proofs.Each.{all-append}
-use Rattle.reading.proofs.Checking.{Padding, padding-is, padding-not, contents-many, contents-large, contents-past, contents-rest, contents-good, Numbered, numbered-legal, numbered-large}
-use Rattle.table_scan.proofs.Inside.{few-are, first-three, few-legal, taken, coded-positive, open-parse, shut-parse}
+use Rattle.reading.proofs.Checking.{Padding, padding-is, padding-not, contents-past, contents-rest, contents-good, Numbered, numbered-legal, numbered-large}
+use Rattle.table_scan.specs.Answers.{Passes, faultAt}
+use Rattle.table_scan.proofs.Refusing.{none, refused-in}
+use Rattle.table_scan.proofs.Inside.{few-are, first-three, taken, coded-positive, open-parse, shut-parse}
 use Rattle.table_scan.proofs.Stepping.{stem-settled, stem-trail, trail-few, front-ones, row-after, bits-next, Pending, pending-none, pending-left, pending-more, pending-held, pending-near, pending-far}
 
 -- ## What the loop keeps
@@ -31,14 +37,14 @@ state-zero zero {state} e = ap (λ (n : ℕ). eqb n 0) e
 state-zero (suc run) {state} e = ne-eqb state 0 (λ z. omega arith) ∙ sym (ne-eqb (suc run) 0 (λ z. omega arith))
 
 -- After i bytes: the numbers that ended are legal and stored, and what is pending is known by its length and value and by its ones, 256 for each
-pub record Walked (s : List ℕ) (i : ℕ) (row : List ℕ) (count len val state : ℕ) : Type 0 where
+pub record Walked (limit : ℕ) (s : List ℕ) (i : ℕ) (row : List ℕ) (count len val state : ℕ) : Type 0 where
   pub words : List (List Bool)
   pub stem : List Bool
   pub run : ℕ
   pub reached : Reached 3 (unpack s) (8 * i) words stem run
   pub many : length words ≡ count
   pub most : count ≤ longest
-  pub legal : Legal largest (map (number 3) words)
+  pub legal : Legal limit (map (number 3) words)
   pub stored : take count row ≡ map (number 3) words
   pub room : length row ≡ 4098
   pub pending : Pending stem len val
@@ -46,8 +52,8 @@ pub record Walked (s : List ℕ) (i : ℕ) (row : List ℕ) (count len val state
   pub small : val ≤ 2 ^ 43 * i
   pub at : state ≡ 256 * run
 
-pub walked-start : (s row : List ℕ) → length row ≡ 4098 → Walked s 0 row 0 0 0 0
-walked-start s row h =
+pub walked-start : (limit : ℕ) (s row : List ℕ) → length row ≡ 4098 → Walked limit s 0 row 0 0 0 0
+walked-start limit s row h =
     record {
       words = [];
       stem = [];
@@ -64,7 +70,7 @@ walked-start s row h =
       at = refl;
     }
 
-module _ {s : List ℕ} {i : ℕ} {row : List ℕ} {count len val state : ℕ} (k : Walked s i row count len val state) where
+module _ {limit : ℕ} {s : List ℕ} {i : ℕ} {row : List ℕ} {count len val state : ℕ} (k : Walked limit s i row count len val state) where
   abbrev done : List ℕ
   done = map (number 3) (k .words)
 
@@ -74,9 +80,15 @@ module _ {s : List ℕ} {i : ℕ} {row : List ℕ} {count len val state : ℕ} (
   pub walked-state : state ≤ 512
   walked-state = omega (arith, k .at, k .reached .few)
 
-  -- a step: the byte, its row r, and what the row's bits are worth after those that are pending
-  module _ (h : i < length s) (byte : getD s i 0 < 256) (r : Row) (row-is : r ≡ rowAt (state + getD s i 0)) (few : Small r)
-      (v : ℕ) (worth : v ≡ moved len (r .x) (r .y) (r .z)) where
+  -- A step: a byte, its row, and what the row's bits are worth after those that are pending
+  pub record Step (r : Row) (v : ℕ) : Type 0 where
+    pub more : i < length s
+    pub byte : getD s i 0 < 256
+    pub row-is : r ≡ rowAt (state + getD s i 0)
+    pub few : Small r
+    pub worth : v ≡ moved len (r .x) (r .y) (r .z)
+
+  module _ {r : Row} {v : ℕ} (step : Step r v) where
     x : List Bool
     x = wordBits 8 (getD s i 0)
 
@@ -89,15 +101,15 @@ module _ {s : List ℕ} {i : ℕ} {row : List ℕ} {count len val state : ℕ} (
 
     row-of : r ≡ rowOf p
     unfolding p
-    row-of = row-is ∙ ap (λ (m : ℕ). rowAt (m + getD s i 0)) (k .at) ∙ row-after (k .run) (getD s i 0) byte
+    row-of = step .row-is ∙ ap (λ (m : ℕ). rowAt (m + getD s i 0)) (k .at) ∙ row-after (k .run) (getD s i 0) (step .byte)
 
     -- the pending bits with the row's
     grown : (q : List Bool) → r .len ≡ length q → r .x ≡ byF q → r .y ≡ byF1 q + byF2 q → r .z ≡ byF1 q → Pending (k .stem ++ q) (len + r .len) (val + v)
-    grown q l a b c = rw (worth, l, a, b, c) (pending-more (k .stem) len val q (k .pending))
+    grown q l a b c = rw (step .worth, l, a, b, c) (pending-more (k .stem) len val q (k .pending))
 
     -- no codeword ends
     pub walked-open : r .count ≡ 0 → (len' : ℕ) → (len + r .len < 37 → len' ≡ len + r .len) → (37 ≤ len + r .len → len' ≡ 37) → v < 2 ^ 43
-        → Walked s (i + 1) row count len' (val + v) (r .next)
+        → Walked limit s (i + 1) row count len' (val + v) (r .next)
     unfolding rowOf front
     walked-open none len' short long low =
         let e : p ≡ parsed [] (rest p) = open-parse p (sym (ap (λ (r : Row). r .count) row-of) ∙ none) in
@@ -108,7 +120,7 @@ module _ {s : List ℕ} {i : ℕ} {row : List ℕ} {count len val state : ℕ} (
           stem = k .stem ++ q;
           run = trail (rest p);
           reached =
-              reached-open (k .reached) x (8 * (i + 1)) (unfold x in bits-next s i h) q (trail (rest p)) (stem-settled (rest p)) (trail-few _ (rest p) [] (sym p-is ∙ e))
+              reached-open (k .reached) x (8 * (i + 1)) (unfold x in bits-next s i (step .more)) q (trail (rest p)) (stem-settled (rest p)) (trail-few _ (rest p) [] (sym p-is ∙ e))
               (sym p-is ∙ e ∙ ap (parsed []) (stem-trail (rest p)));
           many = k .many;
           most = k .most;
@@ -149,7 +161,7 @@ module _ {s : List ℕ} {i : ℕ} {row : List ℕ} {count len val state : ℕ} (
 
       reached-next : Reached 3 (unpack s) (8 * (i + 1)) (k .words ++ (ended ∷ cut .1)) (stem (rest p)) (trail (rest p))
       reached-next =
-          reached-shut (k .reached) x (8 * (i + 1)) (unfold x in bits-next s i h) (stem (rest p)) (trail (rest p)) (stem-settled (rest p)) (trail-few _ (rest p) _ parse-cut)
+          reached-shut (k .reached) x (8 * (i + 1)) (unfold x in bits-next s i (step .more)) (stem (rest p)) (trail (rest p)) (stem-settled (rest p)) (trail-few _ (rest p) _ parse-cut)
           (cut .0) (cut .1) (parse-cut ∙ ap (parsed (cut .0 ∷ cut .1)) (stem-trail (rest p)))
 
       ended-is : ended ≡ (k .stem ++ q) ++ ones 3
@@ -170,7 +182,7 @@ module _ {s : List ℕ} {i : ℕ} {row : List ℕ} {count len val state : ℕ} (
       count-is = ap (λ (r : Row). r .count) row-cut ∙ ap suc (sym (length-map (cut .1) (number 3)))
 
       within-few : length within ≤ 2
-      within-few = omega (arith, count-is, few .0)
+      within-few = omega (arith, count-is, step .few .0)
 
       second-is : r .second ≡ getD within 0 0
       unfolding rowOf inside
@@ -180,8 +192,8 @@ module _ {s : List ℕ} {i : ℕ} {row : List ℕ} {count len val state : ℕ} (
       unfolding rowOf inside
       third-is = ap (λ (r : Row). r .third) row-cut
 
-      within-legal : Legal largest within
-      within-legal = few-legal within within-few (coded-positive (cut .1) (is-cut .coded .1)) (omega (arith, second-is, few .5)) (omega (arith, third-is, few .6))
+      within-pos : Positive within
+      within-pos = coded-positive (cut .1) (is-cut .coded .1)
 
       next-numbers : map (number 3) (k .words ++ (ended ∷ cut .1)) ≡ done ++ (number 3 ended ∷ within)
       next-numbers = map-append (number 3) (k .words) (ended ∷ cut .1)
@@ -189,50 +201,58 @@ module _ {s : List ℕ} {i : ℕ} {row : List ℕ} {count len val state : ℕ} (
       all-numbers : (later : List ℕ) × (numbers 3 (unpack s) ≡ (done ++ (number 3 ended ∷ within)) ++ later)
       all-numbers = let t = reached-numbers reached-next in (t .0, t .1 ∙ ap (λ (l : List ℕ). l ++ t .0) next-numbers)
 
-      -- they go on with the number of that codeword
-      go-on : numbers 3 (unpack s) ≡ done ++ (number 3 ended ∷ (within ++ all-numbers .0))
-      go-on = all-numbers .1 ∙ append-assoc done (number 3 ended ∷ within) (all-numbers .0)
+      -- n was found for its number, and of the numbers that end so many pass
+      module _ (n : ℕ) (is : Numbered 3 (len + r .len) (val + v) n) (top : limit ≤ largest) (good : ℕ) (passes : Passes (isNumber limit n) limit (r .second) (r .third) good) where
+        -- n is legal where the number is
+        alike : isNumber limit n ≡ isNumber limit (number 3 ended)
+        alike = by (isNumber limit n) refl
+          where
+            by : (t : Bool) → isNumber limit n ≡ t → isNumber limit n ≡ isNumber limit (number 3 ended)
+            by true e = ap (isNumber limit) (numbered-legal 3 _ _ n is (number 3 ended) ended-near ended-far limit top e)
+            by false e = e ∙ sym (numbered-large 3 _ _ n is (number 3 ended) ended-near ended-far limit top e)
 
-      pub walked-many : count ≡ longest → contents largest 3 (unpack s) ≡ refused 4 0
-      walked-many c = contents-many largest 3 (unpack s) done (k .legal) (number 3 ended) _ go-on (done-long ∙ c)
+        passes-within : Passes (isNumber limit (number 3 ended)) limit (getD within 0 0) (getD within 1 0) good
+        passes-within = rw (← alike, ← second-is, ← third-is) passes
 
-      -- n was found for its number
-      module _ (n : ℕ) (is : Numbered 3 (len + r .len) (val + v) n) where
-        pub walked-large : (count ≡ longest → ⊥) → isNumber largest n ≡ false → contents largest 3 (unpack s) ≡ refused 7 count
-        walked-large less l =
-            contents-large largest 3 (unpack s) done (k .legal) (number 3 ended) _ go-on (omega (arith, done-long, k .most))
-            (numbered-large 3 _ _ n is (number 3 ended) ended-near ended-far largest (omega arith) l) ∙ ap (refused 7) done-long
+        pub walked-fault : good < 3 → contents (fibonacci 3) limit s ≡ refused (faultAt (count + good))
+        walked-fault l =
+            refused-in limit s done (k .legal) (number 3 ended) within (all-numbers .0) (all-numbers .1) within-few within-pos good passes-within l
+            ∙ ap (λ (c : ℕ). refused (faultAt (c + good))) done-long
 
-        module _ (good : isNumber largest n ≡ true) where
+        -- all pass
+        module _ (all : 3 ≤ good) where
+          legal : Legal limit (number 3 ended ∷ within)
+          legal = none limit (number 3 ended) within within-few within-pos good passes-within all
+
           n-is : n ≡ number 3 ended
-          n-is = numbered-legal 3 _ _ n is (number 3 ended) ended-near ended-far largest (omega arith) good
+          n-is = numbered-legal 3 _ _ n is (number 3 ended) ended-near ended-far limit top (alike ∙ legal .0)
 
-          next-legal : Legal largest (done ++ (number 3 ended ∷ within))
-          next-legal = all-append (λ n. isNumber largest n ≡ true) done (number 3 ended ∷ within) (k .legal) (rw (← n-is) good, within-legal)
+          pub walked-number : n ≤ largest
+          walked-number = omega (arith, number-is limit n (alike ∙ legal .0) .1)
+
+          next-legal : Legal limit (done ++ (number 3 ended ∷ within))
+          next-legal = all-append (λ n. isNumber limit n ≡ true) done (number 3 ended ∷ within) (k .legal) legal
 
           next-long : length (done ++ (number 3 ended ∷ within)) ≡ count + r .count
           next-long = omega (arith, length-append done (number 3 ended ∷ within), done-long, count-is)
 
           -- those inside the byte are too many
-          pub walked-past : longest < count + r .count → contents largest 3 (unpack s) ≡ refused 4 0
-          walked-past f = contents-past largest 3 (unpack s) (done ++ (number 3 ended ∷ within)) next-legal (all-numbers .0) (all-numbers .1) (omega (arith, next-long))
+          pub walked-past : longest < count + r .count → contents (fibonacci 3) limit s ≡ refused TooManyCodewords
+          walked-past f = contents-past limit 3 s (done ++ (number 3 ended ∷ within)) next-legal (all-numbers .0) (all-numbers .1) (omega (arith, next-long))
 
-          abbrev kept : List ℕ
-          kept = sets row count (n ∷ r .second ∷ r .third ∷ [])
+          abbrev new : List ℕ
+          new = n ∷ r .second ∷ r .third ∷ []
 
-          kept-long : length kept ≡ 4098
-          kept-long = length-sets row count (n ∷ r .second ∷ r .third ∷ []) ∙ k .room
-
-          kept-is : (count ≡ longest → ⊥) → take (count + r .count) kept ≡ done ++ (number 3 ended ∷ within)
-          kept-is less =
-              taken row (n ∷ r .second ∷ r .third ∷ []) count (r .count) (omega (arith, k .room, k .most)) (few .0)
-              ∙ ap₂ _++_ (k .stored) (ap (λ (c : ℕ). take c (n ∷ r .second ∷ r .third ∷ [])) count-is
+          kept-is : count + r .count ≤ longest → take (count + r .count) (sets row count new) ≡ done ++ (number 3 ended ∷ within)
+          kept-is f =
+              taken row new count (r .count) (omega (arith, k .room, count-is)) (step .few .0)
+              ∙ ap₂ _++_ (k .stored) (ap (λ (c : ℕ). take c new) count-is
               ∙ first-three n-is second-is third-is (length within) ∙ ap (λ (l : List ℕ). number 3 ended ∷ l) (few-are within within-few))
 
-          pub walked-shut : (count ≡ longest → ⊥) → count + r .count ≤ longest
-              → Walked s (i + 1) (sets row count (n ∷ r .second ∷ r .third ∷ [])) (count + r .count) (r .left) (r .val) (r .next)
+          pub walked-shut : count + r .count ≤ longest
+              → Walked limit s (i + 1) (sets row count (n ∷ r .second ∷ r .third ∷ [])) (count + r .count) (r .left) (r .val) (r .next)
           unfolding rowOf
-          walked-shut less f =
+          walked-shut f =
               record {
                 words = k .words ++ (ended ∷ cut .1);
                 stem = stem (rest p);
@@ -241,14 +261,14 @@ module _ {s : List ℕ} {i : ℕ} {row : List ℕ} {count len val state : ℕ} (
                 many = sym (length-map (k .words ++ (ended ∷ cut .1)) (number 3)) ∙ ap length next-numbers ∙ next-long;
                 most = f;
                 legal = rw next-numbers next-legal;
-                stored = kept-is less ∙ sym next-numbers;
-                room = kept-long;
+                stored = kept-is f ∙ sym next-numbers;
+                room = length-sets row count new ∙ k .room;
                 pending =
                     subst (λ (l : ℕ). Pending (stem (rest p)) l (r .val)) (sym (ap (λ (r : Row). r .left) row-cut))
                     (subst (λ (v : ℕ). Pending (stem (rest p)) (length (stem (rest p))) v) (sym (ap (λ (r : Row). r .val) row-cut))
-                    (pending-left (stem (rest p)) (omega (arith, ap (λ (r : Row). r .left) row-cut, few .7))));
-                held = omega (arith, few .7);
-                small = omega (arith, few .8);
+                    (pending-left (stem (rest p)) (omega (arith, ap (λ (r : Row). r .left) row-cut, step .few .7))));
+                held = omega (arith, step .few .7);
+                small = omega (arith, step .few .8);
                 at = ap (λ (r : Row). r .next) row-cut;
               }
 
@@ -264,12 +284,12 @@ module _ {s : List ℕ} {i : ℕ} {row : List ℕ} {count len val state : ℕ} (
     state-none : Padding len val state ≡ Padding len val (k .run)
     state-none = ap (λ (t : Bool). ltb len 8 && (eqb val 0 && t)) (state-zero (k .run) (k .at))
 
-    pub walked-padding : Padding len val state ≡ true → (contents largest 3 (unpack s) ≡ accepted done) × (take count row ≡ done) × (length done ≡ count)
+    pub walked-padding : Padding len val state ≡ true → (contents (fibonacci 3) limit s ≡ accepted done) × (take count row ≡ done) × (length done ≡ count)
     walked-padding e =
         let t = padding-is 3 (k .stem) len val (k .run) (omega arith) (λ l. k .pending .near (omega arith)) far (sym state-none ∙ e) in
-        (contents-good largest 3 (unpack s) done (k .legal) (k .words) _ rest-is refl (omega (arith, done-long, k .most)) (t .0) (t .1), k .stored, done-long)
+        (contents-good limit 3 s done (k .legal) (k .words) _ rest-is refl (omega (arith, done-long, k .most)) (t .0) (t .1), k .stored, done-long)
 
-    pub walked-rest : Padding len val state ≡ false → contents largest 3 (unpack s) ≡ refused 6 0
+    pub walked-rest : Padding len val state ≡ false → contents (fibonacci 3) limit s ≡ refused BadRest
     walked-rest e =
-        contents-rest largest 3 (unpack s) done (k .legal) (k .words) _ rest-is refl (omega (arith, done-long, k .most))
+        contents-rest limit 3 s done (k .legal) (k .words) _ rest-is refl (omega (arith, done-long, k .most))
         (padding-not 3 (k .stem) len val (k .run) (omega arith) (λ l. k .pending .near (omega arith)) far (sym state-none ∙ e))

@@ -4,20 +4,15 @@ ghost use mathlib.Core.List.{_∷_, []};
 ghost use Prim.Native.Nat.{_≤_, _<_};
 ghost use lib.ListN.{length};
 ghost use lib.Seq.{sets};
-ghost use Rattle.bits.specs.Bits.{unpack};
-ghost use Rattle.fibonacci.specs.Calls.{accepted, andThen, largest, mostBytes};
-ghost use Rattle.reading.specs.Reading.{contents};
-ghost use Rattle.table_scan.specs.Answers.{rowOutcome, Begins, Tables};
+ghost use Rattle.calls.specs.Limits.{isNumber, largest, mostBytes};
+ghost use Rattle.calls.specs.Reading.{contents};
+ghost use Rattle.reading.specs.Reading.{fibonacci};
+ghost use Rattle.table_scan.specs.Answers.{Tables, Scanned, Passes, faultAt};
+use calls::CountAnswer;
+use calls::Refusal;
 
 // The first number that a byte ends goes to place 4,095 at most, and two more may follow it.
 pub const ROOM: usize = 4098;
-
-// What the scan answers.
-pub enum RowAnswer {
-    // How many numbers the row has.
-    Row(usize),
-    Refused(reading::Refusal),
-}
 
 // Three numbers from element i on.
 fn put(row: &mut [u32; ROOM], i: usize, first: u64, second: u32, third: u32)
@@ -36,6 +31,33 @@ fn held(len: usize) -> usize
     if len < 37 { len } else { 37 }
 }
 
+// How many of the numbers that a byte ends pass their check before the first that fails; 3 where none fails. Those after the first are 15 at most, so that only
+// a small limit refuses them.
+fn passing(first: u64, second: u32, third: u32, limit: u64) -> usize
+    ensures { λ r. ⌜ Passes (isNumber limit first) limit second third r ⌝ }
+{
+    if !calls::is_number(first, limit) {
+        0
+    } else if calls::wide(second) > limit {
+        1
+    } else if calls::wide(third) > limit {
+        2
+    } else {
+        3
+    }
+}
+
+// Why a codeword is refused whose number fails its check, by its place.
+fn fault(place: usize) -> Refusal
+    ensures { λ r. ⌜ r ≡ faultAt place ⌝ }
+{
+    if place >= calls::LONGEST {
+        Refusal::TooManyCodewords
+    } else {
+        Refusal::TooLarge(place)
+    }
+}
+
 // The scan after the check of the length, byte by byte. Pending are `len` bits up to a zero, whose value is `val`, or at least so many where `len` is 37, and
 // then as many ones as `state` has 256s: the rows for the next byte begin there. The table decoder takes the tables and checks the length before.
 pub fn walk(
@@ -44,10 +66,11 @@ pub fn walk(
     positions: &[u32; 40],
     firsts: &[u32; 47],
     s: &[u8],
+    limit: u64,
     row: &mut [u32; ROOM],
-) -> RowAnswer
-    requires { ⌜ Tables (now heads) (now tails) (now positions) (now firsts) × (length (now s) ≤ mostBytes) × (length (now row) ≡ 4098) ⌝ }
-    ensures { λ r. ⌜ (rowOutcome r ≡ andThen (contents largest 3 (unpack (now (s .entry)))) (λ row. accepted (length row))) × Begins (contents largest 3 (unpack (now (s .entry)))) (now (row .exit)) × (length (now (row .exit)) ≡ 4098) ⌝ }
+) -> CountAnswer
+    requires { ⌜ Tables (now heads) (now tails) (now positions) (now firsts) × (length (now s) ≤ mostBytes) × (limit ≤ largest) × (length (now row) ≡ 4098) ⌝ }
+    ensures { λ r. ⌜ Scanned (contents (fibonacci 3) limit (now (s .entry))) r (now (row .exit)) ⌝ }
 {
     let mut count: usize = 0;
     let mut len: usize = 0;
@@ -62,24 +85,22 @@ pub fn walk(
             len = held(end);
             val = sum;
         } else {
-            if count == fibonacci::LONGEST {
-                return RowAnswer::Refused(reading::Refusal::Count);
-            }
             let n = reading::number(firsts, 3, end, sum);
-            if !fibonacci::is_number(n, fibonacci::LARGEST) {
-                return RowAnswer::Refused(reading::Refusal::Number(count));
+            let good = passing(n, r.second, r.third, limit);
+            if good < 3 {
+                return CountAnswer::Refused(fault(count + good));
+            }
+            if count + r.count > calls::LONGEST {
+                return CountAnswer::Refused(Refusal::TooManyCodewords);
             }
             put(row, count, n, r.second, r.third);
             count += r.count;
-            if count > fibonacci::LONGEST {
-                return RowAnswer::Refused(reading::Refusal::Count);
-            }
             len = r.left;
             val = r.val;
         }
     }
     if !reading::is_padding(len, val, state) {
-        return RowAnswer::Refused(reading::Refusal::Rest);
+        return CountAnswer::Refused(Refusal::BadRest);
     }
-    RowAnswer::Row(count)
+    CountAnswer::Count(count)
 }

@@ -6,35 +6,28 @@ use lib.Dec.{ltb}
 use lib.ListN.{length}
 use lib.Seq.{slice}
 use Rattle.fibonacci.specs.Code.{sum}
-use Rattle.fibonacci.specs.Calls.{Outcome, accepted, refused, check, andThen, within}
-use Rattle.reading.specs.Reading.{decode}
-use Rattle.reading.specs.Answers.{refusal}
+use Rattle.calls.specs.declared.Refusal.the-variants.{BadOrder, BadSpan, BadRepeats}
+use Rattle.calls.specs.Calls.{Outcome, accepted, refused, check, andThen}
+use Rattle.calls.specs.Limits.{isOrder, largest, within}
+use Rattle.calls.specs.Reading.{decode}
+use Rattle.reading.specs.Reading.{fibonacci}
 use Rattle.totals.specs.declared.TotalAnswer.{TotalAnswer}
-use Rattle.totals.specs.declared.TotalAnswer.the-variants as answer
-use Rattle.totals.specs.declared.RepeatedTotalAnswer.{RepeatedTotalAnswer}
-use Rattle.totals.specs.declared.RepeatedTotalAnswer.the-variants as repeated
+use Rattle.totals.specs.declared.TotalAnswer.the-variants.{Sum, Refused}
 
 -- Total from a, up to but without b: 8 a above b or b above the count; else the sum
 unfoldable pub total : ℕ → List ℕ → ℕ → ℕ → Outcome ℕ
-total m s a b = andThen (decode m s) (λ row.
-    check 8 0 (ltb b a)
-    (check 8 0 (ltb (length row) b)
-    (accepted (sum (slice a b row)))))
+total m s a b = check BadOrder (not (isOrder m)) (andThen (decode (fibonacci m) largest s) (λ row.
+    check BadSpan (ltb b a)
+    (check BadSpan (ltb (length row) b)
+    (accepted (sum (slice a b row))))))
 
 -- Repeated total (paper 01: the runner's width): 14 r not 1 to 10,000; else r times the row's total
 unfoldable pub repeatedTotal : ℕ → List ℕ → ℕ → Outcome ℕ
-repeatedTotal m s r = andThen (decode m s) (λ row.
-    check 14 0 (not (within 1 10000 r))
-    (accepted (r * sum row)))
+repeatedTotal m s r = check BadOrder (not (isOrder m)) (andThen (decode (fibonacci m) largest s) (λ row.
+    check BadRepeats (not (within 1 10000 r))
+    (accepted (r * sum row))))
 
--- ## The answers of the functions as paper 01's numbers and values
-
+-- The answers of the functions
 abbrev pub totalOutcome : TotalAnswer → Outcome ℕ
-totalOutcome (answer.Sum x) = accepted x
-totalOutcome (answer.Refused r) = refusal r
-totalOutcome answer.Span = refused 8 0
-
-abbrev pub repeatedOutcome : RepeatedTotalAnswer → Outcome ℕ
-repeatedOutcome (repeated.Sum x) = accepted x
-repeatedOutcome (repeated.Refused r) = refusal r
-repeatedOutcome repeated.Repeats = refused 14 0
+totalOutcome (Sum x) = accepted x
+totalOutcome (Refused r) = refused r

@@ -9,40 +9,38 @@ use lib.ListN.{length}
 use borrow.Author.Tests.{not-false, le-ltb, ltb-false, ne-eqb, eqb-true}
 use Rattle.bits.specs.Bits.{unpack, byteCount}
 use Rattle.bits.proofs.Bytes.{unpack-length}
-use Rattle.fibonacci.specs.Calls.{Outcome, accepted, refused, check, isOrder, isNumber, longest}
+use Rattle.calls.proofs.Checks.{both, order-is, number-is, not-both, refused-same, check-passed}
+use Rattle.calls.specs.declared.Refusal.{Refusal}
+use Rattle.calls.specs.declared.Refusal.the-variants.{BadOrder, TooManyNumbers, BadAlphabet, NotAnIndex}
+use Rattle.calls.specs.Calls.{Outcome, accepted, refused, check}
+use Rattle.calls.specs.Limits.{isOrder, isNumber, longest, Order}
 use Rattle.fibonacci.specs.Code.{first}
-use Rattle.fibonacci.specs.Tables.{Order}
-use Rattle.fibonacci.proofs.Checks.{both, order-is, number-is, not-both, refused-same, check-passed}
 use Rattle.wavelet.specs.Nodes.{tree}
 use Rattle.wavelet.specs.Bitmaps.{need, isIndex}
 use Rattle.wavelet.specs.Questions.{mostAlphabet, checkTree, ask}
 use Rattle.wavelet.specs.Walk.{At, Low, ends, Ends, Path, Exact, mostIndex, Root}
-use Rattle.wavelet.specs.Answers.{treeRefusal, Passed}
+use Rattle.wavelet.specs.Answers.{Passed}
 use Rattle.wavelet.specs.declared.Spot.{Spot}
-use Rattle.wavelet.specs.declared.Refusal.{Refusal}
-use Rattle.wavelet.specs.declared.Refusal.the-variants as refusal
 use Rattle.wavelet.proofs.Pruned.{stands-root}
 use Rattle.wavelet.proofs.Depth.{tree-need}
 
 -- ## Order, alphabet and length
 
-abbrev pub legal : Outcome (Unit {0})
-legal = accepted tt
-
 -- a refusal does not hang on what comes after
-refuses : {A : Type 0} (n : ℕ) (x y z : Bool) (next : Outcome A) → refused n 0 ≡ check 1 0 x (check 9 0 y (check 4 0 z legal))
-    → refused n 0 ≡ check 1 0 x (check 9 0 y (check 4 0 z next))
-refuses n true y z next e = refused-same e
-refuses n false true z next e = refused-same e
-refuses n false false true next e = refused-same e
-refuses n false false false next e = absurd (not-both e)
+refuses : {A : Type 0} (r : Refusal) (x y z : Bool) (v : ℕ) (next : Outcome A)
+    → refused r ≡ check BadOrder x (check BadAlphabet y (check TooManyNumbers z (accepted v)))
+    → refused r ≡ check BadOrder x (check BadAlphabet y (check TooManyNumbers z next))
+refuses r true y z v next e = refused-same e
+refuses r false true z v next e = refused-same e
+refuses r false false true v next e = refused-same e
+refuses r false false false v next e = absurd (not-both e)
 
 module _ (m N k : ℕ) where
-  pub tree-passed : checkTree m N k legal ≡ legal → Passed m N k
-  tree-passed e =
-      let o = check-passed 1 0 (not (isOrder m)) _ tt e in
-      let a = check-passed 9 0 (not (isNumber mostAlphabet N)) _ tt (o .1) in
-      let c = check-passed 4 0 (ltb longest k) _ tt (a .1) in
+  pub tree-passed : {x : ℕ} → accepted x ≡ checkTree m N k (accepted N) → Passed m N k
+  tree-passed {x} e =
+      let o = check-passed BadOrder (not (isOrder m)) _ x (sym e) in
+      let a = check-passed BadAlphabet (not (isNumber mostAlphabet N)) _ x (o .1) in
+      let c = check-passed TooManyNumbers (ltb longest k) _ x (a .1) in
       record { order = not-false _ (o .0); alphabet = not-false _ (a .0); count = ltb-false _ _ (c .0) }
 
   -- what comes after them decides
@@ -50,10 +48,8 @@ module _ (m N k : ℕ) where
   tree-legal p next = simp (p .order, p .alphabet, le-ltb longest k (p .count))
 
   -- or does not matter
-  pub tree-refused : {A : Type 0} (r : Refusal) → treeRefusal r ≡ checkTree m N k legal → (next : Outcome A) → treeRefusal r ≡ checkTree m N k next
-  tree-refused refusal.Order e next = refuses 1 (not (isOrder m)) (not (isNumber mostAlphabet N)) (ltb longest k) next e
-  tree-refused refusal.Alphabet e next = refuses 9 (not (isOrder m)) (not (isNumber mostAlphabet N)) (ltb longest k) next e
-  tree-refused refusal.Count e next = refuses 4 (not (isOrder m)) (not (isNumber mostAlphabet N)) (ltb longest k) next e
+  pub tree-refused : {A : Type 0} {r : Refusal} → refused r ≡ checkTree m N k (accepted N) → (next : Outcome A) → refused r ≡ checkTree m N k next
+  tree-refused {r = r} e next = refuses r (not (isOrder m)) (not (isNumber mostAlphabet N)) (ltb longest k) N next e
 
 -- ## Whether the bytes are an index
 
@@ -97,7 +93,7 @@ module _ {m N k : ℕ} (p : Passed m N k) where
           let c : byteCount (need (tree m N) k (unpack s)) ≡ length s = eqb-true _ _ (both (eqb (byteCount (need (tree m N) k (unpack s))) (length s)) _ e .0) in
           omega (arith, ends-need, c, unpack-length s)
 
-    pub ask-not : {A : Type 0} (next : Outcome A) → isIndex m N k s ≡ false → refused 11 0 ≡ ask m N k s next
+    pub ask-not : {A : Type 0} (next : Outcome A) → isIndex m N k s ≡ false → refused NotAnIndex ≡ ask m N k s next
     ask-not next e = sym (tree-legal m N k p _ ∙ simp e)
 
     pub ask-next : {A : Type 0} (next : Outcome A) → isIndex m N k s ≡ true → ask m N k s next ≡ next

@@ -6,7 +6,9 @@ use Prim.Native.Nat.{ℕ, _≤_}
 use native.Mathlib.Omega.{arith}
 use lib.Dec.{leb, ltb, eqb}
 use lib.ListN.{length, getD}
-use Rattle.fibonacci.specs.Calls.{accepted, check, isNumber, Legal}
+use Rattle.calls.specs.declared.Refusal.the-variants.{BadPlace, BadUse, OutsideAlphabet, TooFewUses}
+use Rattle.calls.specs.Calls.{accepted, check}
+use Rattle.calls.specs.Limits.{isNumber, Legal}
 use Rattle.wavelet.specs.Nodes.{tree, visits}
 use Rattle.wavelet.specs.Bitmaps.{index, isIndex, rowOf}
 use Rattle.wavelet.specs.Questions.{checkTree, rankIn, selectIn, extract, rank, select}
@@ -16,17 +18,17 @@ use Rattle.wavelet.proofs.Held.{index-held, held-index, one-row}
 
 -- the questions asked of bytes that are the index of a row
 module _ (m N k : ℕ) (s row : List ℕ) (good : isIndex m N k s ≡ true) (same : rowOf m N k s ≡ row) where
-  extract-row : (i : ℕ) → extract m N k s i ≡ checkTree m N k (check 8 0 (leb k i) (accepted (getD row i 0, visits m N (getD row i 0))))
+  extract-row : (i : ℕ) → extract m N k s i ≡ checkTree m N k (check BadPlace (leb k i) (accepted (getD row i 0, visits m N (getD row i 0))))
   unfolding extract
   extract-row i = simp (good, same)
 
   rank-row : (n i : ℕ)
-      → rank m N k s n i ≡ checkTree m N k (check 10 0 (not (isNumber N n)) (check 8 0 (ltb k i) (accepted (rankIn row n i, visits m N n))))
+      → rank m N k s n i ≡ checkTree m N k (check (OutsideAlphabet 0) (not (isNumber N n)) (check BadPlace (ltb k i) (accepted (rankIn row n i, visits m N n))))
   unfolding rank
   rank-row n i = simp (good, same)
 
   select-row : (n j : ℕ) → select m N k s n j
-      ≡ checkTree m N k (check 10 0 (not (isNumber N n)) (check 8 0 (eqb j 0) (check 12 0 (ltb (rankIn row n k) j) (accepted (selectIn row n j, visits m N n)))))
+      ≡ checkTree m N k (check (OutsideAlphabet 0) (not (isNumber N n)) (check BadUse (eqb j 0) (check TooFewUses (ltb (rankIn row n k) j) (accepted (selectIn row n j, visits m N n)))))
   unfolding select
   select-row n j = simp (good, same)
 

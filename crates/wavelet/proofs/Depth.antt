@@ -9,7 +9,7 @@ use lib.ListN.{take, drop, length-take}
 use Rattle.bits.specs.Bits.{count}
 use Rattle.bits.proofs.Count.{count-both}
 use Rattle.fibonacci.specs.Code.{first}
-use Rattle.fibonacci.specs.Tables.{Order}
+use Rattle.calls.specs.Limits.{Order}
 use Rattle.wavelet.specs.Nodes.{Tree, leaf, node, prune, tree}
 use Rattle.wavelet.specs.Bitmaps.{need}
 use Rattle.wavelet.specs.Questions.{mostAlphabet}

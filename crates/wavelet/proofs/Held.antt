@@ -15,10 +15,9 @@ use Rattle.bits.proofs.Bytes.{unpack-length}
 use Rattle.bits.proofs.Packing.{pack-length, unpack-pack, pack-bytes, unpack-apart}
 use Rattle.bits.proofs.Count.{zeros-none, none-zeros}
 use Rattle.fibonacci.specs.Code.{codeword}
-use Rattle.fibonacci.specs.Encoding.{All}
-use Rattle.fibonacci.specs.Calls.{Legal}
-use Rattle.fibonacci.proofs.Checks.{both, number-is, is-number}
-use Rattle.fibonacci.proofs.Each.{all-map}
+use Rattle.calls.proofs.Checks.{both, number-is, is-number}
+use Rattle.calls.proofs.Each.{all-map}
+use Rattle.calls.specs.Limits.{All, Legal}
 use Rattle.wavelet.specs.Nodes.{those, begins, Tree, leaf, node, tree, nodes}
 use Rattle.wavelet.specs.Bitmaps.{bitmap, joined, bitmaps, index, need, merge, held, isIndex, rowOf}
 use Rattle.wavelet.proofs.Strings.{begins-trans, begins-bit, begins-next, begins-one, begins-append, begins-by}

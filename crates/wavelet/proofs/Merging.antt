@@ -13,7 +13,7 @@ use borrow.Author.Tests.{eq-eqb}
 use Rattle.bits.specs.Bits.{worth, is, count, place}
 use Rattle.bits.proofs.Count.{count-le}
 use Rattle.bits.proofs.Place.{place-none}
-use Rattle.fibonacci.specs.Encoding.{All}
+use Rattle.calls.specs.Limits.{All}
 use Rattle.wavelet.specs.Bitmaps.{merge}
 use Rattle.wavelet.specs.Questions.{uses, rankIn}
 

@@ -10,8 +10,8 @@ use lib.ListN.{length, getD, take, drop, length-append, replicate-append-replica
 use lib.Seq.{take-at}
 use Rattle.bits.specs.Bits.{is, worth}
 use Rattle.fibonacci.specs.Code.{valuesFrom, ones, runs, Codeword, value, number, codeword}
-use Rattle.fibonacci.specs.Encoding.{All}
-use Rattle.fibonacci.proofs.Checks.{both}
+use Rattle.calls.proofs.Checks.{both}
+use Rattle.calls.specs.Limits.{All}
 use Rattle.fibonacci.proofs.Runs.{few-ones, runs-cut}
 use Rattle.fibonacci.proofs.Numbers.{first-rises, first-pos, value-append, number-one, form-codeword, codeword-good}
 use Rattle.wavelet.specs.Nodes.{those, begins, goesOn, isNode, Tree, leaf, node, prune, tree, nodes}

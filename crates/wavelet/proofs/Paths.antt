@@ -4,13 +4,14 @@ use mathlib.Core.Bool.{Bool, false}
 use mathlib.Core.List.{List, [], _∷_, _++_}
 use Prim.Native.Nat.{ℕ, zero, suc, _+_, _-_, _*_, _%_, _^_, _≤_, _<_}
 use native.Mathlib.Omega.{arith}
-use lib.ListN.{getD, replicate}
+use lib.ListN.{length, getD, replicate}
 use lib.Pow.{shl-lt, shl-exact}
 use Rattle.bits.specs.Bits.{wordBits}
 use Rattle.bits.proofs.Words.{words-at, words-padded}
 use Rattle.fibonacci.specs.Code.{size, codeword}
-use Rattle.fibonacci.specs.Tables.{Order}
+use Rattle.calls.specs.Limits.{Order}
 use Rattle.fibonacci.proofs.Numbers.{codeword-size}
+use Rattle.codewords.proofs.Codewords.{stem-long}
 use Rattle.wavelet.specs.Questions.{mostAlphabet}
 use Rattle.wavelet.specs.Walk.{Path}
 use Rattle.wavelet.proofs.Spots.{shallow}
@@ -28,23 +29,26 @@ zeros-on (a ∷ l) k zero = refl
 zeros-on (a ∷ l) k (suc i) = zeros-on l k i
 
 -- how long the codewords of the alphabet are
-pub path-short : (m n d : ℕ) → Order m → 1 ≤ n → n ≤ mostAlphabet → d ≡ size m n n 0 → d ≤ 16
-path-short m n d o a b e = shallow m d o (rw e (omega (arith, codeword-size m n (omega arith) a .0)))
+pub path-short : (m n k : ℕ) → Order m → 1 ≤ n → n ≤ mostAlphabet → k ≡ length (codeword m n) → k ≤ 22
+path-short m n k o a b e =
+    let d = size m n n 0 in
+    let short : d ≤ 16 = shallow m d o (omega (arith, codeword-size m n (omega arith) a .0)) in
+    omega (arith, stem-long m n d o a (omega arith) refl .0)
 
-module _ (m n d w : ℕ) (long : d + m ≤ 32) (bits : wordBits (d + m) w ≡ codeword m n) (small : w < 2 ^ (d + m)) where
+module _ (m n k w : ℕ) (long : k ≤ 32) (bits : wordBits k w ≡ codeword m n) (small : w < 2 ^ k) where
   -- the word, shifted to the top
-  shifted : w * 2 ^ (32 - d - m) % 2 ^ 64 ≡ w * 2 ^ (32 - d - m)
-  shifted = shl-exact (d + m) (32 - d - m) 64 small (omega arith)
+  shifted : w * 2 ^ (32 - k) % 2 ^ 64 ≡ w * 2 ^ (32 - k)
+  shifted = shl-exact k (32 - k) 64 small (omega arith)
 
-  pub path-fits : w * 2 ^ (32 - d - m) % 2 ^ 64 < 2 ^ 32
+  pub path-fits : w * 2 ^ (32 - k) % 2 ^ 64 < 2 ^ 32
   path-fits =
-      let n : d + m + (32 - d - m) ≡ 32 = omega arith in
-      rw shifted (subst (λ (k : ℕ). w * 2 ^ (32 - d - m) < 2 ^ k) n (shl-lt (d + m) (32 - d - m) small))
+      let e : k + (32 - k) ≡ 32 = omega arith in
+      rw shifted (subst (λ (i : ℕ). w * 2 ^ (32 - k) < 2 ^ i) e (shl-lt k (32 - k) small))
 
-  pub path-is : Path m n (w * 2 ^ (32 - d - m) % 2 ^ 64)
+  pub path-is : Path m n (w * 2 ^ (32 - k) % 2 ^ 64)
   path-is s h =
-      let k : d + m + (32 - d - m) ≡ 32 = omega arith in
-      let x = w * 2 ^ (32 - d - m) in
-      let all : wordBits 32 x ≡ codeword m n ++ replicate (32 - d - m) false =
-      ap (λ (j : ℕ). wordBits j x) (sym k) ∙ words-padded (d + m) (32 - d - m) w ∙ ap (λ (l : List Bool). l ++ replicate (32 - d - m) false) bits in
-      rw shifted (sym (words-at 32 x s h) ∙ ap (λ (l : List Bool). getD l s false) all ∙ zeros-on (codeword m n) (32 - d - m) s)
+      let e : k + (32 - k) ≡ 32 = omega arith in
+      let x = w * 2 ^ (32 - k) in
+      let all : wordBits 32 x ≡ codeword m n ++ replicate (32 - k) false =
+      ap (λ (j : ℕ). wordBits j x) (sym e) ∙ words-padded k (32 - k) w ∙ ap (λ (l : List Bool). l ++ replicate (32 - k) false) bits in
+      rw shifted (sym (words-at 32 x s h) ∙ ap (λ (l : List Bool). getD l s false) all ∙ zeros-on (codeword m n) (32 - k) s)

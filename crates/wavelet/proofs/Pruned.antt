@@ -11,7 +11,7 @@ use borrow.Author.Tests.{le-leb, leb-true}
 use Rattle.bits.specs.Bits.{is}
 use Rattle.fibonacci.specs.Code.{F, valuesFrom, ones, runs, Codeword, value, first, number, codeword}
 use Rattle.fibonacci.specs.Encoding.{Parse, parsed, IsParse, rowBits, parse}
-use Rattle.fibonacci.proofs.Checks.{both}
+use Rattle.calls.proofs.Checks.{both}
 use Rattle.fibonacci.proofs.Runs.{runs-all}
 use Rattle.fibonacci.proofs.Numeration.{F-pos}
 use Rattle.fibonacci.proofs.Numbers.{first-suc, first-rises, value-append, number-of, number-one, number-digits, form-codeword, codeword-good, codeword-number}

@@ -4,26 +4,21 @@ use mathlib.Core.Bool.{Bool, true, false}
 use mathlib.Core.List.{List, [], _∷_, _++_}
 use Prim.Native.Nat.{ℕ, _+_, _-_, _≤_, _<_}
 use native.Mathlib.Omega.{arith}
-use lib.ListN.{length, getD, take, drop, length-take, length-drop}
+use lib.ListN.{length, getD, take, drop, length-drop}
 use lib.Seq.{take-take, drop-drop, getD-take, getD-drop}
 use Rattle.bits.specs.Bits.{bitOf, count, place}
-use Rattle.bits.proofs.Count.{count-both, count-between}
+use Rattle.bits.proofs.Count.{count-between}
 use Rattle.fibonacci.specs.Code.{codeword}
 use Rattle.wavelet.specs.Nodes.{begins, Tree, node, prune, visitsIn}
 use Rattle.wavelet.specs.Bitmaps.{need, held}
 use Rattle.wavelet.specs.Questions.{uses, rankIn}
-use Rattle.wavelet.specs.Walk.{At, ends, Path}
+use Rattle.wavelet.specs.Walk.{At, side, ends, Path}
 use Rattle.wavelet.specs.declared.Spot.{Spot}
 use Rattle.wavelet.proofs.Strings.{begins-next}
 use Rattle.wavelet.proofs.Pruned.{stands-longer}
 use Rattle.wavelet.proofs.Nodes.{stands-under}
 use Rattle.wavelet.proofs.Trees.{Under, afterZero, zeroSide, oneSide, extract-one, extract-zero, rank-one, rank-zero, select-one, select-zero, visits-one, visits-zero}
 use Rattle.wavelet.proofs.Ends.{zeros}
-
--- what a bit chooses of two
-abbrev pub side : {A : Type 0} → Bool → A → A → A
-side false z o = z
-side true z o = o
 
 -- ## A node's bitmap of k bits, of which e are ones, at bit `at`
 
@@ -46,21 +41,17 @@ module _ (k : ℕ) (b : List Bool) (at e : ℕ) (fits : at + k ≤ length b) (on
       ∙ drop-drop (need z (k - e) (drop (at + k) b)) (at + k) b ∙ ap (λ (i : ℕ). drop i b) (sym after) in
       ap₂ (λ (n : ℕ) (l : List Bool). held o n l) (count-side true) d
 
-  -- how many of them stand before place i, before which there are c ones
-  module _ (i c : ℕ) (le : i ≤ k) (before : c ≡ count true (take i here)) where
-    same : take i (take k here) ≡ take i here
-    same = take-take i k here le
+  -- how many of them stand before place i
+  module _ (i : ℕ) (le : i ≤ k) where
+    pub before-side : (a : Bool) → count a (take i (take k here)) ≡ count a (take i here)
+    before-side a = ap (count a) (take-take i k here le)
 
-    pub before-side : (a : Bool) → count a (take i (take k here)) ≡ side a (i - c) c
-    before-side false = ap (count false) same ∙ omega (arith, count-both (take i here), length-take i here, length-drop at b)
-    before-side true = ap (count true) same ∙ sym before
-
-    pub place-fits : (a : Bool) → side a (i - c) c ≤ side a (k - e) e
+    pub place-fits : (a : Bool) → count a (take i here) ≤ side a (k - e) e
     place-fits a =
         let n : i + (k - i) ≡ k = omega arith in
         let part : count a (take k here) ≡ count a (take i here) + count a (take (k - i) (drop i here)) =
         ap (λ (j : ℕ). count a (take j here)) (sym n) ∙ count-between a i (k - i) here in
-        omega (arith, part, count-side a, before-side a, ap (count a) same)
+        omega (arith, part, count-side a)
 
     -- place i itself
     pub place-bit : i < k → getD (take k here) i false ≡ getD b (at + i) false

@@ -6,7 +6,7 @@ use Prim.Native.Nat.{_<_}
 use native.Mathlib.Omega.{arith}
 use lib.ListN.{length, getD, drop}
 use Rattle.bits.specs.Bits.{is}
-use Rattle.fibonacci.proofs.Checks.{both}
+use Rattle.calls.proofs.Checks.{both}
 use Rattle.wavelet.specs.Nodes.{begins}
 
 is-same : (a c : Bool) → is a c ≡ true → a ≡ c

@@ -2,7 +2,7 @@
 use mathlib.Core.Path.{_≡_, refl, sym, ap, _∙_}
 use mathlib.Core.Bool.{Bool, true, false, true≢false}
 use mathlib.Core.List.{List, [], _∷_, _++_}
-use Rattle.fibonacci.specs.Encoding.{All}
+use Rattle.calls.specs.Limits.{All}
 use Rattle.wavelet.specs.Nodes.{those}
 
 module _ {A : Type 0} where

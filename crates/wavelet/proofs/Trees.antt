@@ -11,8 +11,8 @@ use lib.Seq.{length-take-le}
 use borrow.Author.Tests.{ne-eqb}
 use Rattle.bits.specs.Bits.{count, place}
 use Rattle.fibonacci.specs.Code.{codeword}
-use Rattle.fibonacci.specs.Encoding.{All}
-use Rattle.fibonacci.proofs.Each.{all-map, all-append}
+use Rattle.calls.proofs.Each.{all-map, all-append}
+use Rattle.calls.specs.Limits.{All}
 use Rattle.wavelet.specs.Nodes.{those, begins, Tree, leaf, node, nodes, visitsIn}
 use Rattle.wavelet.specs.Bitmaps.{need, held}
 use Rattle.wavelet.specs.Questions.{uses, rankIn}

@@ -1,6 +1,6 @@
 -- Where the bitmaps below a spot end, step by step.
-use mathlib.Core.Path.{_≡_, sym, _∙_, subst}
-use mathlib.Core.Bool.{Bool, true, false, _&&_, true≢false}
+use mathlib.Core.Path.{_≡_, refl, sym, _∙_, subst}
+use mathlib.Core.Bool.{Bool, true, false, true≢false}
 use mathlib.Core.List.{List, [], _∷_, _++_}
 use mathlib.Core.Logic.{_⊎_, inl, inr, ⊎-elim}
 use Prim.Native.Nat.{ℕ, suc, _+_, _-_, _*_, _≤_, _<_}
@@ -12,20 +12,23 @@ use borrow.Author.Tests.{lt-ltb, le-leb, ltb-true, leb-true}
 use Rattle.bits.specs.Bits.{unpack, count}
 use Rattle.bits.proofs.Bytes.{unpack-length}
 use Rattle.fibonacci.specs.Code.{codeword}
-use Rattle.fibonacci.proofs.Checks.{both}
+use Rattle.fibonacci.specs.Tables.{Positions}
+use Rattle.calls.proofs.Checks.{both}
 use Rattle.fibonacci.proofs.Numeration.{F-pos}
 use Rattle.wavelet.specs.Nodes.{begins, leaf, prune}
-use Rattle.wavelet.specs.Walk.{At, sideOf, ends, Ends}
+use Rattle.wavelet.specs.Questions.{mostAlphabet}
+use Rattle.wavelet.specs.Walk.{At, Low, nodeTest, sideOf, ends, Ends, Starts, Closes}
 use Rattle.wavelet.specs.declared.Spot.{Spot}
 use Rattle.wavelet.proofs.Pruned.{stands-node, stands-high, stands-full, high-only, full-only}
 use Rattle.wavelet.proofs.Ends.{ends-none, ends-leaf, ends-short, ends-cut, ends-on}
 
--- the test of a node
-abbrev pub nodeTest : ℕ → ℕ → Spot → Bool
-nodeTest m N v = ltb (v .ones) m && leb (v .next) N
-
 pub is-node : (m N : ℕ) (v : Spot) → nodeTest m N v ≡ true → (v .ones < m) × (v .next ≤ N)
 is-node m N v e = let b = both (ltb (v .ones) m) (leb (v .next) N) e in (ltb-true _ _ (b .0), leb-true _ _ (b .1))
+
+-- what the step to a side asks
+pub side-legal : (m N : ℕ) (v : Spot) (row : List ℕ) → Positions m row → N ≤ mostAlphabet → Low m v → nodeTest m N v ≡ true
+    → Positions m row × Low m v × (v .next ≤ mostAlphabet) × (v .ones ≤ m)
+side-legal m N v row p h low e = let n = is-node m N v e in (p, low, omega (arith, n .1), omega (arith, n .0))
 
 off-node : (m N : ℕ) (v : Spot) → nodeTest m N v ≡ false → (m ≤ v .ones) ⊎ (N < v .next)
 off-node m N v e =
@@ -83,6 +86,20 @@ module _ (m N : ℕ) (v : Spot) (k : ℕ) (s : List ℕ) (at : ℕ) (here : at �
           let t = stands-node h (is-node m N v e .0) (is-node m N v e .1) in
           subst (λ (y : Spot). Ends m N y c s mid r) e2 last (t .g) _ (t .one-side)
           ∙ rw (t .tree-is) (ends-on q _ _ k (unpack s) at c in-bits ones mid (zero-side (t .g) _ (t .zero-side)) (omega (arith, unpack-length s)))
+
+-- where the bitmaps of a side start, and where all end once those of a side do
+module _ (m N : ℕ) (v : Spot) (c : ℕ) (s : List ℕ) (at : ℕ) (one : Bool) where
+  pub starts-zero : (k : ℕ) → one ≡ false → Starts m N v k c s at one (at + k)
+  starts-zero k e = rw e refl
+
+  pub starts-one : (k r : ℕ) (x : Spot) → one ≡ true → x ≡ sideOf m v false → Ends m N x (k - c) s (at + k) r → Starts m N v k c s at one r
+  starts-one k r x e made ending = rw e (subst (λ (x : Spot). Ends m N x (k - c) s (at + k) r) made ending)
+
+  pub closes-one : one ≡ true → Closes m N v c s at one at
+  closes-one e = rw e refl
+
+  pub closes-zero : (r : ℕ) (x : Spot) → one ≡ false → x ≡ sideOf m v true → Ends m N x c s at r → Closes m N v c s at one r
+  closes-zero r x e made ending = rw e (subst (λ (x : Spot). Ends m N x c s at r) made ending)
 
 -- a side has a larger next number
 pub less : (m N : ℕ) (v : Spot) (one : Bool) {u : Spot} (t : ℕ) → suc N - v .next ≡ t → u ≡ sideOf m v one → (1 ≤ m) → (v .ones < m) × (v .next ≤ N) → suc N - u .next < t

@@ -8,7 +8,9 @@ use lib.Dec.{leb, ltb, eqb}
 use lib.ListN.{length, getD}
 use Rattle.bits.specs.Bits.{Bytes}
 use Rattle.fibonacci.specs.Code.{ones, runs, number}
-use Rattle.fibonacci.specs.Calls.{accepted, check, isNumber, Legal}
+use Rattle.calls.specs.declared.Refusal.the-variants.{BadPlace, BadUse, OutsideAlphabet, TooFewUses}
+use Rattle.calls.specs.Calls.{accepted, check}
+use Rattle.calls.specs.Limits.{isNumber, Legal}
 use Rattle.wavelet.specs.Nodes.{isNode, tree, nodes, visits}
 use Rattle.wavelet.specs.Bitmaps.{index, isIndex, rowOf}
 use Rattle.wavelet.specs.Questions.{checkTree, rankIn, selectIn, extract, rank, select}
@@ -37,9 +39,9 @@ pub record IndexDemand (m N : ℕ) : Type 0 where
   pub one-row : (k : ℕ) (s row : List ℕ) → Legal N row → length row ≡ k → index m N row ≡ s → row ≡ rowOf m N k s
   -- 4. So the questions are answered by any row whose index the bytes are, as that row itself answers them
   pub extract-row : (k : ℕ) (s row : List ℕ) → Legal N row → length row ≡ k → index m N row ≡ s → (i : ℕ)
-      → extract m N k s i ≡ checkTree m N k (check 8 0 (leb k i) (accepted (getD row i 0, visits m N (getD row i 0))))
+      → extract m N k s i ≡ checkTree m N k (check BadPlace (leb k i) (accepted (getD row i 0, visits m N (getD row i 0))))
   pub rank-row : (k : ℕ) (s row : List ℕ) → Legal N row → length row ≡ k → index m N row ≡ s → (n i : ℕ)
-      → rank m N k s n i ≡ checkTree m N k (check 10 0 (not (isNumber N n)) (check 8 0 (ltb k i) (accepted (rankIn row n i, visits m N n))))
+      → rank m N k s n i ≡ checkTree m N k (check (OutsideAlphabet 0) (not (isNumber N n)) (check BadPlace (ltb k i) (accepted (rankIn row n i, visits m N n))))
   pub select-row : (k : ℕ) (s row : List ℕ) → Legal N row → length row ≡ k → index m N row ≡ s → (n j : ℕ)
       → select m N k s n j
-      ≡ checkTree m N k (check 10 0 (not (isNumber N n)) (check 8 0 (eqb j 0) (check 12 0 (ltb (rankIn row n k) j) (accepted (selectIn row n j, visits m N n)))))
+      ≡ checkTree m N k (check (OutsideAlphabet 0) (not (isNumber N n)) (check BadUse (eqb j 0) (check TooFewUses (ltb (rankIn row n k) j) (accepted (selectIn row n j, visits m N n)))))

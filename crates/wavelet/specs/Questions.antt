@@ -5,7 +5,9 @@ use Prim.Native.Nat.{ℕ, _-_}
 use lib.Dec.{leb, ltb, eqb}
 use lib.ListN.{length, getD, take}
 use Rattle.bits.specs.Bits.{count, place}
-use Rattle.fibonacci.specs.Calls.{Outcome, accepted, check, buffer, isOrder, isNumber, longest, checkEach}
+use Rattle.calls.specs.declared.Refusal.the-variants.{BadOrder, TooManyNumbers, NoRoom, BadPlace, BadUse, BadAlphabet, OutsideAlphabet, NotAnIndex, TooFewUses}
+use Rattle.calls.specs.Calls.{Outcome, accepted, check, buffer}
+use Rattle.calls.specs.Limits.{isOrder, isNumber, longest, checkEach}
 use Rattle.wavelet.specs.Nodes.{visits}
 use Rattle.wavelet.specs.Bitmaps.{bitmaps, index, isIndex, rowOf}
 
@@ -16,16 +18,16 @@ mostAlphabet = 4096
 -- 1 order not 2 to 6; 9 alphabet not 1 to 4,096; 4 more than 4,096 numbers
 abbrev pub checkTree : {A : Type 0} → ℕ → ℕ → ℕ → Outcome A → Outcome A
 checkTree m N k next =
-    check 1 0 (not (isOrder m))
-    (check 9 0 (not (isNumber mostAlphabet N))
-    (check 4 0 (ltb longest k) next))
+    check BadOrder (not (isOrder m))
+    (check BadAlphabet (not (isNumber mostAlphabet N))
+    (check TooManyNumbers (ltb longest k) next))
 
 -- Build: 1, 9, 4; 10 a number is 0 or above the alphabet; 5 the output is shorter than the index; else how many bits the bitmaps have
 unfoldable pub build : ℕ → ℕ → List ℕ → ℕ → Outcome ℕ
 build m N row room =
     checkTree m N (length row)
-    (checkEach 10 N 0 row
-    (check 5 0 (ltb room (length (index m N row)))
+    (checkEach OutsideAlphabet N 0 row
+    (check NoRoom (ltb room (length (index m N row)))
     (accepted (length (bitmaps m N row)))))
 
 -- The output after building
@@ -49,28 +51,28 @@ selectIn row n j = place true (j - 1) (uses n row)
 
 -- 1, 9, 4; 11 the bytes are not exactly as many as the bitmaps need, or the padding holds a one
 abbrev pub ask : {A : Type 0} → ℕ → ℕ → ℕ → List ℕ → Outcome A → Outcome A
-ask m N k s next = checkTree m N k (check 11 0 (not (isIndex m N k s)) next)
+ask m N k s next = checkTree m N k (check NotAnIndex (not (isIndex m N k s)) next)
 
 -- Extract the number at place i: 8 place not below the length
 unfoldable pub extract : ℕ → ℕ → ℕ → List ℕ → ℕ → Outcome (ℕ × ℕ)
 extract m N k s i =
     ask m N k s
-    (check 8 0 (leb k i)
+    (check BadPlace (leb k i)
     (accepted (getD (rowOf m N k s) i 0, visits m N (getD (rowOf m N k s) i 0))))
 
 -- Rank of n among the first i places: 10 the number is 0 or above the alphabet; 8 i above the length
 unfoldable pub rank : ℕ → ℕ → ℕ → List ℕ → ℕ → ℕ → Outcome (ℕ × ℕ)
 rank m N k s n i =
     ask m N k s
-    (check 10 0 (not (isNumber N n))
-    (check 8 0 (ltb k i)
+    (check (OutsideAlphabet 0) (not (isNumber N n))
+    (check BadPlace (ltb k i)
     (accepted (rankIn (rowOf m N k s) n i, visits m N n))))
 
 -- Select the j-th use of n: 10; 8 j is 0; 12 fewer than j uses
 unfoldable pub select : ℕ → ℕ → ℕ → List ℕ → ℕ → ℕ → Outcome (ℕ × ℕ)
 select m N k s n j =
     ask m N k s
-    (check 10 0 (not (isNumber N n))
-    (check 8 0 (eqb j 0)
-    (check 12 0 (ltb (rankIn (rowOf m N k s) n k) j)
+    (check (OutsideAlphabet 0) (not (isNumber N n))
+    (check BadUse (eqb j 0)
+    (check TooFewUses (ltb (rankIn (rowOf m N k s) n k) j)
     (accepted (selectIn (rowOf m N k s) n j, visits m N n)))))

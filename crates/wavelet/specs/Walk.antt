@@ -1,13 +1,16 @@
 -- Where a walk down the tree stands, and what the functions that walk find there: for the contracts of those functions. No operation's promise cites it.
 use mathlib.Core.Path.{_≡_}
-use mathlib.Core.Bool.{Bool, true, false}
+use mathlib.Core.Bool.{Bool, true, false, _&&_}
 use mathlib.Core.List.{List, _∷_, _++_}
-use Prim.Native.Nat.{ℕ, suc, _+_, _-_, _≤_, _<_, min}
+use Prim.Native.Nat.{ℕ, suc, _+_, _-_, _*_, _≤_, _<_, min}
+use lib.Dec.{leb, ltb}
 use lib.ListN.{length, getD, drop}
 use Rattle.bits.specs.Bits.{bitOf, unpack}
 use Rattle.fibonacci.specs.Code.{F, ones, Codeword, first, number, codeword}
+use Rattle.fibonacci.specs.Tables.{Positions}
 use Rattle.wavelet.specs.Nodes.{Tree, prune}
 use Rattle.wavelet.specs.Bitmaps.{need, exact}
+use Rattle.wavelet.specs.Questions.{mostAlphabet}
 use Rattle.wavelet.specs.declared.Spot.{Spot}
 
 -- How many bytes an index has at most, for those contracts; that none has more is a law (`index-long`)
@@ -38,6 +41,19 @@ Root v = (v .depth ≡ 0) × (v .next ≡ 2) × (v .ones ≡ 0) × (v .number �
 abbrev pub Low : ℕ → Spot → Type 0
 Low m v = first m (v .depth + 1) ≤ v .next
 
+-- The test of a node
+abbrev pub nodeTest : ℕ → ℕ → Spot → Bool
+nodeTest m N v = ltb (v .ones) m && leb (v .next) N
+
+-- What a walk has shown where it looks at the bitmaps below a spot: they start at bit `at`
+abbrev pub Ready : ℕ → ℕ → Spot → List ℕ → List ℕ → ℕ → Type 0
+Ready m N v positions s at = Positions m positions × (N ≤ mostAlphabet) × Low m v × (length s ≤ mostIndex) × (at ≤ 8 * length s)
+
+-- What a bit chooses of two
+abbrev pub side : {A : Type 0} → Bool → A → A → A
+side false z o = z
+side true z o = o
+
 -- On the side of a bit
 abbrev pub sideOf : ℕ → Spot → Bool → Spot
 sideOf m v false = record { depth = v .depth + 1; next = v .next + F m (v .depth + 1); ones = 0; number = v .next }
@@ -50,6 +66,16 @@ ends t k b at = min (at + need t k (drop at b)) (suc (length b))
 -- So below a spot, in bytes
 abbrev pub Ends : ℕ → ℕ → Spot → ℕ → List ℕ → ℕ → ℕ → Type 0
 Ends m N v k s at e = (f : ℕ) (q : List Bool) → At m N f q v → e ≡ ends (prune m N f q) k (unpack s) at
+
+-- Where the bitmaps of a side of a node start: those of the 0 side after the node's own of k bits, those of the 1 side where those of the 0 side end. Of the k bits e are ones
+abbrev pub Starts : ℕ → ℕ → Spot → ℕ → ℕ → List ℕ → ℕ → Bool → ℕ → Type 0
+Starts m N v k e s at false r = r ≡ at + k
+Starts m N v k e s at true r = Ends m N (sideOf m v false) (k - e) s (at + k) r
+
+-- Where the bitmaps of a node end, once those of a side have ended at bit `at`
+abbrev pub Closes : ℕ → ℕ → Spot → ℕ → List ℕ → ℕ → Bool → ℕ → Type 0
+Closes m N v e s at false r = Ends m N (sideOf m v true) e s at r
+Closes m N v e s at true r = r ≡ at
 
 -- x has the bits of the codeword of n from the top of 32 bits on, and then zeros
 abbrev pub Path : ℕ → ℕ → ℕ → Type 0

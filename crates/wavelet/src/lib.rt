@@ -1,35 +1,25 @@
 // The pruned Wavelet tree of the row index, walked: nothing of it is stored, as it follows from the order and the alphabet.
 ghost use mathlib.Core.Path.{_≡_};
-ghost use mathlib.Core.Bool.{true, _&&_};
-ghost use Prim.Native.Nat.{_-_, _≤_, _<_, min};
-ghost use lib.Dec.{leb, ltb};
+ghost use mathlib.Core.Bool.{true};
+ghost use Prim.Native.Nat.{_-_, _≤_, _<_};
 ghost use Rattle.bits.specs.Bits.{bitOf};
-ghost use Rattle.fibonacci.specs.Code.{F, first};
-ghost use Rattle.fibonacci.specs.Calls.{accepted, isNumber};
-ghost use Rattle.fibonacci.specs.Tables.{Order, tableRow};
-ghost use Rattle.codewords.specs.Digits.{lowDigits};
+ghost use Rattle.calls.specs.Calls.{accepted, countOutcome};
+ghost use Rattle.calls.specs.Limits.{isNumber};
+ghost use Rattle.fibonacci.specs.Tables.{Positions};
+ghost use Rattle.codewords.specs.Digits.{Tables};
 ghost use Rattle.wavelet.specs.Questions.{mostAlphabet, checkTree};
-ghost use Rattle.wavelet.specs.Answers.{checkedOutcome};
-ghost use Rattle.wavelet.specs.Walk.{Low, sideOf, Path, Root};
+ghost use Rattle.wavelet.specs.Walk.{Low, nodeTest, sideOf, Path, Root};
+use calls::CountAnswer;
+use calls::Refusal;
 
 // The limits of the index: the largest alphabet, and how many bytes an index has at most: 16 bits for each of 4,096 numbers.
 pub const MOST_ALPHABET: u64 = 4096;
 
 pub const MOST_INDEX: usize = 8192;
 
-// The refusals that building and the questions share; their numbers are paper 01's.
-pub enum Refusal {
-    // 1: the order is not 2 to 6.
-    Order,
-    // 9: the alphabet is not 1 to 4,096.
-    Alphabet,
-    // 4: the row has more than 4,096 numbers.
-    Count,
-}
-
-// What the check of order, alphabet and length finds.
-pub enum Checked {
-    Legal,
+// What a question answers: the number at a place, how often a number stands before a place, or the place of a use; and the visits of the number concerned.
+pub enum QuestionAnswer {
+    Answered { result: usize, visits: usize },
     Refused(Refusal),
 }
 
@@ -45,27 +35,20 @@ pub struct Spot {
     pub number: u64,
 }
 
-// The check that building and the questions begin with, of a row of `len` numbers up to `alphabet`.
-pub fn check(order: usize, alphabet: u32, len: usize) -> Checked
-    ensures { λ r. ⌜ checkedOutcome r ≡ checkTree order alphabet len (accepted tt) ⌝ }
+// The check that building and the questions begin with, of a row of `len` numbers up to `alphabet`; its result is the alphabet.
+pub fn check(order: usize, alphabet: u32, len: usize) -> CountAnswer
+    ensures { λ r. ⌜ countOutcome r ≡ checkTree order alphabet len (accepted alphabet) ⌝ }
 {
-    if !fibonacci::is_order(order) {
-        return Checked::Refused(Refusal::Order);
+    if !calls::is_order(order) {
+        return CountAnswer::Refused(Refusal::BadOrder);
     }
-    if !fibonacci::is_number(fibonacci::wide(alphabet), MOST_ALPHABET) {
-        return Checked::Refused(Refusal::Alphabet);
+    if !calls::is_number(calls::wide(alphabet), MOST_ALPHABET) {
+        return CountAnswer::Refused(Refusal::BadAlphabet);
     }
-    if len > fibonacci::LONGEST {
-        return Checked::Refused(Refusal::Count);
+    if len > calls::LONGEST {
+        return CountAnswer::Refused(Refusal::TooManyNumbers);
     }
-    Checked::Legal
-}
-
-// The lesser of two.
-pub fn least(a: usize, b: usize) -> usize
-    ensures { λ r. ⌜ r ≡ min a b ⌝ }
-{
-    if a < b { a } else { b }
+    CountAnswer::Count(alphabet as usize)
 }
 
 // The empty string.
@@ -82,7 +65,7 @@ pub fn root() -> Spot
 
 // Whether a string is a node of the tree of 1 .. limit.
 pub fn is_node(order: usize, limit: u64, v: Spot) -> bool
-    ensures { λ r. ⌜ r ≡ (ltb (v .ones) order && leb (v .next) limit) ⌝ }
+    ensures { λ r. ⌜ r ≡ nodeTest order limit v ⌝ }
 {
     v.ones < order && v.next <= limit
 }
@@ -90,7 +73,7 @@ pub fn is_node(order: usize, limit: u64, v: Spot) -> bool
 // The string with a bit more. A walk calls it where it has seen a node, from the root on. Every operation checks its order before, and takes its row of
 // position values.
 pub fn side(positions: &[u32; 47], order: usize, v: Spot, one: bool) -> Spot
-    requires { ⌜ Order order × (now positions ≡ tableRow (F order)) × Low order v × (v .next ≤ mostAlphabet) × (v .ones ≤ order) ⌝ }
+    requires { ⌜ Positions order (now positions) × Low order v × (v .next ≤ mostAlphabet) × (v .ones ≤ order) ⌝ }
     ensures { λ r. ⌜ (r ≡ sideOf order v one) × Low order r ⌝ }
 {
     let depth = v.depth + 1;
@@ -115,21 +98,20 @@ pub fn side(positions: &[u32; 47], order: usize, v: Spot, one: bool) -> Spot
 // The codeword of a number of the alphabet from the top of a word: at most 16 bits and the last ones. Building and `asked` check the number before, and
 // every operation its order.
 pub fn path(positions: &[u32; 47], firsts: &[u32; 47], low: &[u8; 64], order: usize, n: u64) -> u32
-    requires { ⌜ Order order × (now positions ≡ tableRow (F order)) × (now firsts ≡ tableRow (first order)) × (1 ≤ n) × (n ≤ mostAlphabet) × (now low ≡ lowDigits order) ⌝ }
+    requires { ⌜ Tables order (now positions) (now firsts) (now low) × (1 ≤ n) × (n ≤ mostAlphabet) ⌝ }
     ensures { λ r. ⌜ Path order n r ⌝ }
 {
-    let d = codewords::stem(firsts, order, n);
-    let w = codewords::word(positions, firsts, low, order, n, d);
-    (w << (32 - d - order)) as u32
+    let word = codewords::coded(positions, firsts, low, order, n);
+    (word.bits << (32 - word.len)) as u32
 }
 
 // The codeword of n from the top of a word. Where n is no number of the alphabet, any word does: a walk by it still shows whether the bytes are an index.
-// The questions check order and alphabet before.
+// The walk of a question checks order and alphabet before.
 pub fn asked(positions: &[u32; 47], order: usize, limit: u64, n: u64) -> u32
-    requires { ⌜ Order order × (now positions ≡ tableRow (F order)) × (limit ≤ mostAlphabet) ⌝ }
+    requires { ⌜ Positions order (now positions) × (limit ≤ mostAlphabet) ⌝ }
     ensures { λ r. ⌜ (isNumber limit n ≡ true → Path order n r) ⌝ }
 {
-    if !fibonacci::is_number(n, limit) {
+    if !calls::is_number(n, limit) {
         return 0;
     }
     let firsts = fibonacci::first_numbers(order);

@@ -10,20 +10,20 @@ use lib.Seq.{sets, take-at, drop-at}
 use Rattle.bits.specs.Bits.{unpack, count}
 use Rattle.bits.proofs.Count.{count-le}
 use Rattle.fibonacci.specs.Code.{first, codeword}
-use Rattle.fibonacci.specs.Encoding.{All, Positive}
-use Rattle.fibonacci.specs.Tables.{Order}
+use Rattle.calls.proofs.Each.{all-map}
+use Rattle.calls.specs.Limits.{All, Order}
+use Rattle.fibonacci.specs.Encoding.{Positive}
 use Rattle.wavelet.specs.Nodes.{those, begins, Tree, prune, tree, nodes}
 use Rattle.wavelet.specs.Bitmaps.{bitmap, joined, bitmaps}
 use Rattle.wavelet.specs.Questions.{mostAlphabet}
 use Rattle.wavelet.specs.Answers.{Passed}
-use Rattle.wavelet.specs.Walk.{At, Path, sideOf, Root}
+use Rattle.wavelet.specs.Walk.{At, Path, sideOf, Root, nodeTest}
 use Rattle.wavelet.specs.declared.Spot.{Spot}
 use Rattle.wavelet.proofs.Strings.{begins-front}
-use Rattle.fibonacci.proofs.Each.{all-map}
 use Rattle.wavelet.proofs.Those.{all-those, those-pass, those-fail, those-within}
 use Rattle.wavelet.proofs.Pruned.{stands-node, stands-longer}
 use Rattle.wavelet.proofs.Spots.{shallow}
-use Rattle.wavelet.proofs.Walking.{nodeTest, is-node, is-leaf}
+use Rattle.wavelet.proofs.Walking.{is-node, is-leaf}
 use Rattle.wavelet.proofs.Nodes.{stands-under}
 use Rattle.wavelet.proofs.Held.{at, at-all, Sided, sided-longer, joined-node, joined-none}
 use Rattle.wavelet.proofs.Answering.{at-root}

@@ -6,8 +6,7 @@ ghost use Prim.Native.Nat.{_+_, _*_, _^_, _≤_, _<_};
 ghost use lib.ListN.{length};
 ghost use lib.Seq.{sets};
 ghost use Rattle.bits.specs.Bits.{unpack, count};
-ghost use Rattle.fibonacci.specs.Code.{F};
-ghost use Rattle.fibonacci.specs.Tables.{Order, tableRow};
+ghost use Rattle.fibonacci.specs.Tables.{Positions};
 ghost use Rattle.wavelet.specs.Questions.{mostAlphabet};
 ghost use Rattle.wavelet.specs.Answers.{Passed};
 ghost use Rattle.wavelet.specs.Walk.{Low, mostIndex};
@@ -46,7 +45,7 @@ fn spread(
     out: &mut [u8],
     at: usize,
 ) -> usize
-    requires { ⌜ Order order × (now positions ≡ tableRow (F order)) × (limit ≤ mostAlphabet) × Low order v × (length (now words) ≤ length (now spare)) × (at + room (v .depth) (length (now words)) ≤ 8 * length (now out)) × (length (now out) ≤ mostIndex) ⌝ }
+    requires { ⌜ Positions order (now positions) × (limit ≤ mostAlphabet) × Low order v × (length (now words) ≤ length (now spare)) × (at + room (v .depth) (length (now words)) ≤ 8 * length (now out)) × (length (now out) ≤ mostIndex) ⌝ }
     ensures { λ r. ⌜ (r ≤ at + room (v .depth) (length (now (words .entry)))) × Spread order limit v (now (words .entry)) at (now (out .entry)) r (now (out .exit)) ⌝ }
 {
     let n = words.len();
@@ -83,15 +82,20 @@ fn spread(
 
 // Writes the bitmaps of a row from the front of a buffer; the words have the codewords of its numbers. The result is how many bits they have. Building
 // checks order, alphabet and length before.
-pub fn spread_row(order: usize, alphabet: u32, words: &mut [u32], out: &mut [u8]) -> usize
-    requires { ⌜ Passed order alphabet (length (now words)) × (length (now out) ≡ mostIndex) ⌝ }
+pub fn spread_row(
+    positions: &[u32; 47],
+    order: usize,
+    alphabet: u32,
+    words: &mut [u32],
+    out: &mut [u8],
+) -> usize
+    requires { ⌜ Positions order (now positions) × Passed order alphabet (length (now words)) × (length (now out) ≡ mostIndex) ⌝ }
     ensures { λ r. ⌜ (r ≤ 8 * mostIndex) × Written order alphabet (now (words .entry)) (now (out .entry)) r (now (out .exit)) ⌝ }
 {
-    let positions = fibonacci::positions(order);
-    let limit = fibonacci::wide(alphabet);
-    let mut spare: [u32; fibonacci::LONGEST] = [0; fibonacci::LONGEST];
+    let limit = calls::wide(alphabet);
+    let mut spare: [u32; calls::LONGEST] = [0; calls::LONGEST];
     spread(
-        &positions,
+        positions,
         order,
         limit,
         wavelet::root(),

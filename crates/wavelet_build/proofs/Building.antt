@@ -13,14 +13,15 @@ use Rattle.bits.specs.Bits.{Bytes, unpack, byteCount, pack, padding}
 use Rattle.bits.proofs.Words.{words-zero}
 use Rattle.bits.proofs.Bytes.{unpack-take}
 use Rattle.bits.proofs.Packing.{pack-length, pack-bytes, unpack-pack, unpack-apart}
-use Rattle.fibonacci.specs.Calls.{Outcome, accepted, refused, check, buffer, Legal, checkEach}
-use Rattle.fibonacci.proofs.Checks.{each-passed, each-refused}
+use Rattle.calls.proofs.Checks.{each-passed, each-refused}
+use Rattle.calls.specs.declared.Refusal.{Refusal}
+use Rattle.calls.specs.declared.Refusal.the-variants.{NoRoom, OutsideAlphabet}
+use Rattle.calls.specs.Calls.{Outcome, accepted, refused, check, buffer}
+use Rattle.calls.specs.Limits.{Legal, checkEach}
 use Rattle.wavelet.specs.Bitmaps.{bitmaps, index}
 use Rattle.wavelet.specs.Questions.{checkTree, build, buildInto}
-use Rattle.wavelet.specs.Answers.{treeRefusal, Passed}
-use Rattle.wavelet.specs.declared.Refusal.{Refusal}
-use Rattle.wavelet.specs.declared.Refusal.the-variants as refusal
-use Rattle.wavelet.proofs.Answering.{legal, tree-legal, tree-refused}
+use Rattle.wavelet.specs.Answers.{Passed}
+use Rattle.wavelet.proofs.Answering.{tree-legal, tree-refused}
 
 -- ## The bytes that were written
 
@@ -83,22 +84,16 @@ module _ (m N : ℕ) (row before : List ℕ) where
   unfolding buildInto
   answer outcome e = (sym e, ap (λ (o : Outcome ℕ). buffer o (index m N row) before) (sym e))
 
-  -- a refusal leaves the output as it was
-  untouched : (r : Refusal) → before ≡ buffer {A = ℕ} (treeRefusal r) (index m N row) before
-  untouched refusal.Order = refl
-  untouched refusal.Alphabet = refl
-  untouched refusal.Count = refl
-
   -- the order, the alphabet or the length
-  pub build-refused : (r : Refusal) → treeRefusal r ≡ checkTree m N (length row) legal → Builds m N row before before (treeRefusal r)
+  pub build-refused : (r : Refusal) → refused r ≡ checkTree m N (length row) (accepted N) → Builds m N row before before (refused r)
   unfolding build
-  build-refused r e = let x = answer (treeRefusal r) (sym (tree-refused m N (length row) r e _)) in (x .0, untouched r ∙ x .1)
+  build-refused r e = answer (refused r) (sym (tree-refused m N (length row) e _))
 
   module _ (p : Passed m N (length row)) where
     -- a number
-    pub build-number : (place : ℕ) → refused 10 place ≡ checkEach 10 N 0 row legal → Builds m N row before before (refused 10 place)
+    pub build-number : (r : Refusal) → refused r ≡ checkEach OutsideAlphabet N 0 row (accepted (length row)) → Builds m N row before before (refused r)
     unfolding build
-    build-number place e = answer (refused 10 place) (tree-legal m N (length row) p _ ∙ each-refused 10 N 0 row tt 10 place _ (sym e))
+    build-number r e = answer (refused r) (tree-legal m N (length row) p _ ∙ each-refused OutsideAlphabet N 0 row (length row) r _ (sym e))
 
     module _ (numbers : Legal N row) (bits : ℕ) (long : bits ≡ length (bitmaps m N row)) where
       bytes : length (index m N row) ≡ byteCount bits
@@ -106,13 +101,13 @@ module _ (m N : ℕ) (row before : List ℕ) where
       bytes = rw (pack-length (bitmaps m N row), long)
 
       -- what comes after the checks of the numbers
-      decided : build m N row (length before) ≡ check 5 0 (ltb (length before) (byteCount bits)) (accepted bits)
+      decided : build m N row (length before) ≡ check NoRoom (ltb (length before) (byteCount bits)) (accepted bits)
       unfolding build
-      decided = tree-legal m N (length row) p _ ∙ each-passed 10 N 0 row _ numbers ∙ rw (bytes, long)
+      decided = tree-legal m N (length row) p _ ∙ each-passed OutsideAlphabet N 0 row _ numbers ∙ rw (bytes, long)
 
       -- the output is too short
-      pub build-room : length before < byteCount bits → Builds m N row before before (refused 5 0)
-      build-room h = answer (refused 5 0) (decided ∙ rw (lt-ltb (length before) (byteCount bits) h))
+      pub build-room : length before < byteCount bits → Builds m N row before before (refused NoRoom)
+      build-room h = answer (refused NoRoom) (decided ∙ rw (lt-ltb (length before) (byteCount bits) h))
 
       -- the first bytes of b, which were 0 before the bitmaps were set in them, are copied
       pub build-done : (k : ℕ) (b after : List ℕ) → bits ≤ 8 * k → unpack b ≡ sets (unpack (replicate k 0)) 0 (bitmaps m N row)

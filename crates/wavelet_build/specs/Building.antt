@@ -1,20 +1,14 @@
 -- What the functions that build an index promise.
+use mathlib.Core.Path.{_≡_}
+use mathlib.Core.List.{List}
 use Prim.Native.Nat.{ℕ}
-use Rattle.fibonacci.specs.Calls.{Outcome, accepted, refused}
-use Rattle.wavelet.specs.Answers.{treeRefusal}
-use Rattle.wavelet_build.specs.declared.BuildAnswer.{BuildAnswer}
-use Rattle.wavelet_build.specs.declared.BuildAnswer.the-variants as built
-use Rattle.wavelet_build.specs.declared.Filled.{Filled}
-use Rattle.wavelet_build.specs.declared.Filled.the-variants as filled
+use lib.ListN.{length, take}
+use Rattle.calls.specs.declared.Refusal.the-variants.{OutsideAlphabet}
+use Rattle.calls.specs.Calls.{Outcome, accepted}
+use Rattle.calls.specs.Limits.{checkEach}
+use Rattle.wavelet_bitmaps.specs.Spreading.{Paths}
 
--- The answer as paper 01's number, place and value
-abbrev pub buildOutcome : BuildAnswer → Outcome ℕ
-buildOutcome (built.Built bits) = accepted bits
-buildOutcome (built.Refused r) = treeRefusal r
-buildOutcome (built.Number place) = refused 10 place
-buildOutcome built.Room = refused 5 0
-
--- What filling finds: the place of the first number at fault, if there is one
-abbrev pub filledOutcome : Filled → Outcome Unit
-filledOutcome filled.All = accepted tt
-filledOutcome (filled.Fault place) = refused 10 place
+-- Filling answers as the check of each number does, and where that accepts, the words have the numbers' codewords
+abbrev pub Fills : ℕ → ℕ → List ℕ → List ℕ → Outcome ℕ → Type 0
+Fills m N row words r =
+    (r ≡ checkEach OutsideAlphabet N 0 row (accepted (length row))) × ((n : ℕ) → r ≡ accepted n → Paths m row (take (length row) words))

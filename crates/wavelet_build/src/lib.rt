@@ -1,69 +1,64 @@
 // Building the index of a row.
 ghost use mathlib.Core.Path.{_≡_};
 ghost use Prim.Native.Nat.{_≤_};
-ghost use lib.ListN.{length, take};
-ghost use Rattle.fibonacci.specs.Calls.{accepted, checkEach};
-ghost use Rattle.fibonacci.specs.Tables.{Order};
+ghost use lib.ListN.{length};
+ghost use Rattle.calls.specs.Calls.{countOutcome};
+ghost use Rattle.fibonacci.specs.Tables.{Positions};
 ghost use Rattle.wavelet.specs.Questions.{mostAlphabet, build, buildInto};
-ghost use Rattle.wavelet_bitmaps.specs.Spreading.{Paths};
-ghost use Rattle.wavelet_build.specs.Building.{buildOutcome, filledOutcome};
+ghost use Rattle.wavelet_build.specs.Building.{Fills};
+use calls::CountAnswer;
+use calls::Refusal;
 
-// The refusals' numbers are paper 01's.
-pub enum BuildAnswer {
-    // How many bits the bitmaps have.
-    Built(usize),
-    // 1, 9, 4.
-    Refused(wavelet::Refusal),
-    // 10: the number at this place is 0 or above the alphabet.
-    Number(usize),
-    // 5: the output is shorter than the index.
-    Room,
-}
-
-// Whether all numbers of a row have their codewords, or the place of the first number at fault.
-enum Filled {
-    All,
-    Fault(usize),
-}
-
-// The codewords of a row's numbers, each from the top of a word, up to the first number at fault.
-fn fill(order: usize, alphabet: u32, row: &[u32], words: &mut [u32]) -> Filled
-    requires { ⌜ Order order × (alphabet ≤ mostAlphabet) × (length (now row) ≤ length (now words)) ⌝ }
-    ensures { λ r. ⌜ (filledOutcome r ≡ checkEach 10 alphabet 0 (now (row .entry)) (accepted tt)) × (filledOutcome r ≡ accepted tt → Paths order (now (row .entry)) (take (length (now (row .entry))) (now (words .exit)))) ⌝ }
+// The codewords of a row's numbers, each from the top of a word, up to the first number at fault; how many they are.
+fn fill(
+    positions: &[u32; 47],
+    order: usize,
+    alphabet: u32,
+    row: &[u32],
+    words: &mut [u32],
+) -> CountAnswer
+    requires { ⌜ Positions order (now positions) × (alphabet ≤ mostAlphabet) × (length (now row) ≤ length (now words)) ⌝ }
+    ensures { λ r. ⌜ Fills order alphabet (now (row .entry)) (now (words .exit)) (countOutcome r) ⌝ }
 {
-    let positions = fibonacci::positions(order);
     let firsts = fibonacci::first_numbers(order);
     let low = codewords::low_digits(order);
-    let limit = fibonacci::wide(alphabet);
+    let limit = calls::wide(alphabet);
     for i in 0..row.len() {
-        let n = fibonacci::wide(row[i]);
-        if !fibonacci::is_number(n, limit) {
-            return Filled::Fault(i);
+        let n = calls::wide(row[i]);
+        if !calls::is_number(n, limit) {
+            return CountAnswer::Refused(Refusal::OutsideAlphabet(i));
         }
-        words[i] = wavelet::path(&positions, &firsts, &low, order, n);
+        words[i] = wavelet::path(positions, &firsts, &low, order, n);
     }
-    Filled::All
+    CountAnswer::Count(row.len())
 }
 
-// Builds the index of a row of numbers up to `alphabet`. It is built apart, as a refusal must leave the output as it was.
-pub fn build(order: usize, alphabet: u32, row: &[u32], out: &mut [u8]) -> BuildAnswer
-    ensures { λ r. ⌜ (buildOutcome r ≡ build order alphabet (now (row .entry)) (length (now (out .entry)))) × (now (out .exit) ≡ buildInto order alphabet (now (row .entry)) (now (out .entry))) ⌝ }
+// Builds the index of a row of numbers up to `alphabet`; the result is how many bits the bitmaps have. It is built apart, as a refusal must leave the output as it was.
+pub fn build(order: usize, alphabet: u32, row: &[u32], out: &mut [u8]) -> CountAnswer
+    ensures { λ r. ⌜ (countOutcome r ≡ build order alphabet (now (row .entry)) (length (now (out .entry)))) × (now (out .exit) ≡ buildInto order alphabet (now (row .entry)) (now (out .entry))) ⌝ }
 {
     let checked = wavelet::check(order, alphabet, row.len());
-    if let wavelet::Checked::Refused(r) = checked {
-        return BuildAnswer::Refused(r);
+    if let CountAnswer::Refused(r) = checked {
+        return CountAnswer::Refused(r);
     }
-    let mut words: [u32; fibonacci::LONGEST] = [0; fibonacci::LONGEST];
-    let filled = fill(order, alphabet, row, &mut words);
-    if let Filled::Fault(place) = filled {
-        return BuildAnswer::Number(place);
+    let positions = fibonacci::positions(order);
+    let mut words: [u32; calls::LONGEST] = [0; calls::LONGEST];
+    let filled = fill(&positions, order, alphabet, row, &mut words);
+    if let CountAnswer::Refused(r) = filled {
+        return CountAnswer::Refused(r);
     }
     let mut bytes: [u8; wavelet::MOST_INDEX] = [0; wavelet::MOST_INDEX];
-    let bits = wavelet_bitmaps::spread_row(order, alphabet, &mut words[..row.len()], &mut bytes);
+    let bits = wavelet_bitmaps::spread_row(
+        &positions,
+        order,
+        alphabet,
+        &mut words[..row.len()],
+        &mut bytes,
+    );
     let count = (bits + 7) / 8;
     if out.len() < count {
-        return BuildAnswer::Room;
+        return CountAnswer::Refused(Refusal::NoRoom);
     }
     lists::copy_bytes(out, &bytes, count);
-    BuildAnswer::Built(bits)
+    CountAnswer::Count(bits)
 }

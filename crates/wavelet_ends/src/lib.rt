@@ -1,13 +1,10 @@
-// Where the bitmaps of an index end, which decides whether bytes are one.
+// Where the bitmaps of an index start and end, which decides whether bytes are one.
 ghost use mathlib.Core.Path.{_≡_};
 ghost use mathlib.Core.Bool.{true};
 ghost use Prim.Native.Nat.{_+_, _*_, _≤_};
 ghost use lib.ListN.{length, take, drop};
 ghost use Rattle.bits.specs.Bits.{unpack, count};
-ghost use Rattle.fibonacci.specs.Code.{F};
-ghost use Rattle.fibonacci.specs.Tables.{Order, tableRow};
-ghost use Rattle.wavelet.specs.Questions.{mostAlphabet};
-ghost use Rattle.wavelet.specs.Walk.{Low, Ends, Exact, mostIndex};
+ghost use Rattle.wavelet.specs.Walk.{nodeTest, Ready, Ends, Starts, Closes, Exact, mostIndex};
 
 // How many ones the bitmap of k bits has that starts at bit `at`. Its bytes are handed on with the offset of its first bit. A walk asks it only of bitmaps
 // that do not run past the bytes.
@@ -20,9 +17,8 @@ pub fn ones_in(b: &[u8], at: usize, k: usize) -> usize
     bit_counts::ones_from(&b[from..to], at % 8, k)
 }
 
-// Where the bitmaps below a string end that start at bit `at` and are of k numbers; one more than there are bits where they run past them. The questions
-// check order, alphabet and length before, and that the bytes are few; a walk goes on from the root by `side`.
-pub fn end_of(
+// Where the bitmaps below a string end that start at bit `at` and are of k numbers; one more than there are bits where they run past them.
+fn end_of(
     positions: &[u32; 47],
     order: usize,
     limit: u64,
@@ -31,12 +27,9 @@ pub fn end_of(
     b: &[u8],
     at: usize,
 ) -> usize
-    requires { ⌜ Order order × (now positions ≡ tableRow (F order)) × (limit ≤ mostAlphabet) × Low order v × (length (now b) ≤ mostIndex) × (at ≤ 8 * length (now b)) ⌝ }
+    requires { ⌜ Ready order limit v (now positions) (now b) at ⌝ }
     ensures { λ r. ⌜ Ends order limit v k (now (b .entry)) at r ⌝ }
 {
-    if k == 0 {
-        return at;
-    }
     if !wavelet::is_node(order, limit, v) {
         return at;
     }
@@ -45,13 +38,63 @@ pub fn end_of(
         return total + 1;
     }
     let ones = ones_in(b, at, k);
-    let zero = wavelet::side(positions, order, v, false);
-    let mid = end_of(positions, order, limit, zero, k - ones, b, at + k);
+    let mid = start_of(positions, order, limit, v, k, ones, b, at, true);
     if mid > total {
         return mid;
     }
-    let one = wavelet::side(positions, order, v, true);
-    end_of(positions, order, limit, one, ones, b, mid)
+    end_after(positions, order, limit, v, ones, b, mid, false)
+}
+
+// Where the bitmaps of a side of a node start, whose own bitmap has k bits, `ones` of them ones, and starts at bit `at`. A walk goes on from the root by
+// `side`; it has seen that the string is a node, and that its bitmap does not run past the bytes. The questions check order, alphabet and length before, and
+// that the bytes are few.
+pub fn start_of(
+    positions: &[u32; 47],
+    order: usize,
+    limit: u64,
+    v: wavelet::Spot,
+    k: usize,
+    ones: usize,
+    b: &[u8],
+    at: usize,
+    one: bool,
+) -> usize
+    requires { ⌜ Ready order limit v (now positions) (now b) at × (nodeTest order limit v ≡ true) × (at + k ≤ 8 * length (now b)) × (ones ≤ k) ⌝ }
+    ensures { λ r. ⌜ Starts order limit v k ones (now (b .entry)) at one r ⌝ }
+{
+    let own = at + k;
+    if !one {
+        return own;
+    }
+    if ones == k {
+        return own;
+    }
+    let zero = wavelet::side(positions, order, v, false);
+    end_of(positions, order, limit, zero, k - ones, b, own)
+}
+
+// Where the bitmaps of a node end, once those of the side that a walk has taken have ended at bit `at`; `ones` of the node's own bits are ones.
+pub fn end_after(
+    positions: &[u32; 47],
+    order: usize,
+    limit: u64,
+    v: wavelet::Spot,
+    ones: usize,
+    b: &[u8],
+    at: usize,
+    one: bool,
+) -> usize
+    requires { ⌜ Ready order limit v (now positions) (now b) at × (nodeTest order limit v ≡ true) ⌝ }
+    ensures { λ r. ⌜ Closes order limit v ones (now (b .entry)) at one r ⌝ }
+{
+    if one {
+        return at;
+    }
+    if ones == 0 {
+        return at;
+    }
+    let side = wavelet::side(positions, order, v, true);
+    end_of(positions, order, limit, side, ones, b, at)
 }
 
 // Whether bitmaps that end at bit `end` take exactly the bytes, and the padding after them holds no one. The questions have seen that the bytes are few.

@@ -1,82 +1,124 @@
--- The answers of extract and rank.
-use mathlib.Core.Path.{_≡_, refl, sym, ap, ap₂, _∙_}
+-- The answers of the three questions, from what their walks give.
+use mathlib.Core.Path.{_≡_, sym, ap, ap₂, _∙_}
 use mathlib.Core.Bool.{true, false}
-use mathlib.Core.List.{List, []}
-use Prim.Native.Nat.{ℕ, _≤_, _<_, min}
+use mathlib.Core.List.{List}
+use Prim.Native.Nat.{ℕ, _-_, _≤_, _<_}
 use native.Mathlib.Omega.{arith}
-use native.Mathlib.Nat.{zero-add}
-use lib.ListN.{getD}
-use borrow.Author.Tests.{le-leb, lt-leb, lt-ltb, le-ltb}
-use Rattle.bits.specs.Bits.{unpack}
-use Rattle.fibonacci.specs.Calls.{accepted, refused, isNumber}
-use Rattle.fibonacci.proofs.Checks.{number-is}
-use Rattle.wavelet.specs.Nodes.{begins, tree, visits}
-use Rattle.wavelet.specs.Bitmaps.{held, isIndex, rowOf}
-use Rattle.wavelet.specs.Questions.{checkTree, rankIn, extract, rank}
-use Rattle.wavelet.specs.Answers.{treeRefusal, Passed}
-use Rattle.wavelet.specs.Walk.{Path}
-use Rattle.wavelet.specs.declared.Refusal.{Refusal}
-use Rattle.wavelet.proofs.Answering.{legal, tree-refused, ask-not, ask-next}
-use Rattle.wavelet_descent.specs.Descent.{Arrived}
-use Rattle.wavelet_descent.specs.declared.Way.the-variants as way
-use Rattle.wavelet_descent.specs.declared.Found.{Found}
+use native.Mathlib.Decide.{decLe}
+use lib.Dec.{eqb}
+use lib.ListN.{length, length-map}
+use lib.Seq.{take-all}
+use borrow.Author.Tests.{le-leb, lt-leb, lt-ltb, le-ltb, eq-eqb, ne-eqb}
+use Rattle.bits.specs.Bits.{count, place}
+use Rattle.bits.proofs.Place.{place-found, place-none}
+use Rattle.calls.specs.declared.Refusal.{Refusal}
+use Rattle.calls.specs.declared.Refusal.the-variants.{BadPlace, BadUse, OutsideAlphabet, TooFewUses}
+use Rattle.calls.specs.Calls.{Outcome, accepted, refused}
+use Rattle.calls.specs.Limits.{isNumber}
+use Rattle.wavelet.specs.Bitmaps.{rowOf}
+use Rattle.wavelet.specs.Questions.{uses, rankIn, selectIn, ask, extract, rank, select}
+use Rattle.wavelet.specs.declared.QuestionAnswer.{QuestionAnswer}
+use Rattle.wavelet.specs.declared.QuestionAnswer.the-variants.{Answered, Refused}
+use Rattle.wavelet_walk.specs.Descent.{Walks}
+use Rattle.wavelet_walk.specs.declared.Question.{Question}
+use Rattle.wavelet_walk.specs.declared.Question.the-variants.{Extract, Rank, Select}
 
--- refused before the bytes are looked at
-module _ (m N k : ℕ) (r : Refusal) (e : treeRefusal r ≡ checkTree m N k legal) (s : List ℕ) where
-  pub extract-refused : (i : ℕ) → treeRefusal r ≡ extract m N k s i
-  unfolding extract
-  extract-refused i = tree-refused m N k r e _
+-- what a walk gives, by its answer
+module _ (m N k : ℕ) (s : List ℕ) (asked : Question) (n i : ℕ) {w : QuestionAnswer} (h : Walks m N k s asked n i w) where
+  pub walk-refused : (r : Refusal) → w ≡ Refused r → (next : Outcome (ℕ × ℕ)) → refused r ≡ ask m N k s next
+  walk-refused r e = rw e at h
 
-  pub rank-refused : (n i : ℕ) → treeRefusal r ≡ rank m N k s n i
-  unfolding rank
-  rank-refused n i = tree-refused m N k r e _
+  pub walk-answered : (r v : ℕ) → w ≡ Answered r v → Walks m N k s asked n i (Answered r v)
+  walk-answered r v e = rw e at h
 
-module _ {m N k : ℕ} (p : Passed m N k) (s : List ℕ) where
+module _ (m N k : ℕ) (s : List ℕ) where
   -- ## Extract
 
   module _ (i : ℕ) where
-    pub extract-not : isIndex m N k s ≡ false → refused 11 0 ≡ extract m N k s i
+    pub extract-refused : (r : Refusal) → ((next : Outcome (ℕ × ℕ)) → refused r ≡ ask m N k s next) → refused r ≡ extract m N k s i
     unfolding extract
-    extract-not e = ask-not p s _ e
+    extract-refused r go = go _
 
-    pub extract-place : isIndex m N k s ≡ true → k ≤ i → refused 8 0 ≡ extract m N k s i
-    unfolding extract
-    extract-place e h = sym (ask-next p s _ e ∙ simp (le-leb k i h))
+    module _ (n : ℕ) (r v : ℕ) (w : Walks m N k s Extract n i (Answered r v)) where
+      pub extract-place : k ≤ i → refused BadPlace ≡ extract m N k s i
+      unfolding extract
+      extract-place h = sym (simp (le-leb k i h)) ∙ w .0 _
 
-    pub extract-found : isIndex m N k s ≡ true → i < k → (r : Found) → Arrived m N [] (tree m N) (unpack s) k way.Place (min i k) 0 r
-        → (r .number ≤ N) × (accepted (r .number, r .visits) ≡ extract m N k s i)
-    unfolding extract rowOf visits
-    extract-found e h r a =
-        let same : min i k ≡ i = omega arith in
-        let n : r .number ≡ getD (rowOf m N k s) i 0 = a .at-place refl (omega arith) ∙ ap (λ (x : ℕ). getD (held (tree m N) k (unpack s)) x 0) same in
-        let v : r .visits ≡ visits m N (r .number) = a .visited ∙ zero-add _ in (
-          a .most,
-          ap (λ (x : ℕ). accepted (r .number, x)) v ∙ ap (λ (x : ℕ). accepted (x, visits m N x)) n ∙ sym (ask-next p s _ e ∙ simp (lt-leb k i h)),
-        )
+      pub extract-found : i < k → accepted (r, v) ≡ extract m N k s i
+      unfolding extract
+      extract-found h = ap₂ (λ (x y : ℕ). accepted (x, y)) (w .2 h .0) (w .2 h .1) ∙ sym (simp (lt-leb k i h)) ∙ w .0 _
 
   -- ## Rank
 
   module _ (n i : ℕ) where
-    pub rank-not : isIndex m N k s ≡ false → refused 11 0 ≡ rank m N k s n i
+    pub rank-refused : (r : Refusal) → ((next : Outcome (ℕ × ℕ)) → refused r ≡ ask m N k s next) → refused r ≡ rank m N k s n i
     unfolding rank
-    rank-not e = ask-not p s _ e
+    rank-refused r go = go _
 
-    pub rank-number : isIndex m N k s ≡ true → isNumber N n ≡ false → refused 10 0 ≡ rank m N k s n i
-    unfolding rank
-    rank-number e h = sym (ask-next p s _ e ∙ simp h)
+    module _ (r v : ℕ) (w : Walks m N k s Rank n i (Answered r v)) where
+      pub rank-number : isNumber N n ≡ false → refused (OutsideAlphabet 0) ≡ rank m N k s n i
+      unfolding rank
+      rank-number e = sym (simp e) ∙ w .0 _
 
-    pub rank-place : isIndex m N k s ≡ true → isNumber N n ≡ true → k < i → refused 8 0 ≡ rank m N k s n i
-    unfolding rank
-    rank-place e l h = sym (ask-next p s _ e ∙ simp (l, lt-ltb k i h))
+      pub rank-place : isNumber N n ≡ true → k < i → refused BadPlace ≡ rank m N k s n i
+      unfolding rank
+      rank-place e h = sym (simp (e, lt-ltb k i h)) ∙ w .0 _
 
-    pub rank-found : isIndex m N k s ≡ true → isNumber N n ≡ true → i ≤ k
-        → (x : ℕ) → Path m n x → (r : Found) → Arrived m N [] (tree m N) (unpack s) k (way.Codeword x) (min i k) 0 r
-        → accepted (r .rank, r .visits) ≡ rank m N k s n i
-    unfolding rank rowOf visits begins
-    rank-found e l h x path r a =
-        let same : min i k ≡ i = omega arith in
-        let legal = number-is N n l in
-        let found-n : r .number ≡ n = a .at-codeword n x refl path (legal .0) (legal .1) refl in
-        let c : r .rank ≡ rankIn (rowOf m N k s) n i = a .ranked ∙ ap₂ (λ (y z : ℕ). rankIn (held (tree m N) k (unpack s)) y z) found-n same in
-        let v : r .visits ≡ visits m N n = a .visited ∙ zero-add _ ∙ ap (visits m N) found-n in
-        ap₂ (λ (y z : ℕ). accepted (y, z)) c v ∙ sym (ask-next p s _ e ∙ simp (l, le-ltb k i h))
+      pub rank-found : isNumber N n ≡ true → i ≤ k → accepted (r, v) ≡ rank m N k s n i
+      unfolding rank
+      rank-found e h = ap₂ (λ (x y : ℕ). accepted (x, y)) (w .2 (e, h) .0) (w .2 (e, h) .1) ∙ sym (simp (e, le-ltb k i h)) ∙ w .0 _
+
+  -- ## Select
+
+  module _ (n j : ℕ) where
+    pub select-refused : (r : Refusal) → ((next : Outcome (ℕ × ℕ)) → refused r ≡ ask m N k s next) → refused r ≡ select m N k s n j
+    unfolding select
+    select-refused r go = go _
+
+    -- the walk for the use that has j - 1 others before it
+    module _ (i : ℕ) (same : i ≡ j - 1) (r v : ℕ) (walks : Walks m N k s Select n i (Answered r v)) where
+      w : Walks m N k s Select n (j - 1) (Answered r v)
+      w = rw same at walks
+
+      pub select-number : isNumber N n ≡ false → refused (OutsideAlphabet 0) ≡ select m N k s n j
+      unfolding select
+      select-number e = sym (simp e) ∙ w .0 _
+
+      module _ (e : isNumber N n ≡ true) where
+        pub select-none : j ≡ 0 → refused BadUse ≡ select m N k s n j
+        unfolding select
+        select-none z = sym (simp (e, eq-eqb j 0 z)) ∙ w .0 _
+
+        module _ (some : 1 ≤ j) where
+          uses-length : length (uses n (rowOf m N k s)) ≡ k
+          uses-length = length-map (rowOf m N k s) (eqb n) ∙ w .1
+
+          all-uses : rankIn (rowOf m N k s) n k ≡ count true (uses n (rowOf m N k s))
+          unfolding rankIn
+          all-uses = ap (λ (l : List ℕ). count true (uses n l)) (take-all k (rowOf m N k s) (omega (arith, w .1)))
+
+          -- the place is in the row exactly where there are j uses
+          few : k ≤ r → rankIn (rowOf m N k s) n k < j
+          few h =
+              elim (decLe j (count true (uses n (rowOf m N k s)))) [
+                | yes l ↦ absurd (omega (arith, w .2 e .0, uses-length, place-found true (j - 1) (uses n (rowOf m N k s)) (omega arith)))
+                | no l ↦ omega (arith, all-uses)
+              ]
+
+          enough : r < k → j ≤ rankIn (rowOf m N k s) n k
+          enough h =
+              elim (decLe j (count true (uses n (rowOf m N k s)))) [
+                | yes l ↦ omega (arith, all-uses)
+                | no l ↦ absurd (omega (arith, w .2 e .0, uses-length, place-none true (j - 1) (uses n (rowOf m N k s)) (omega arith)))
+              ]
+
+          positive : eqb j 0 ≡ false
+          positive = ne-eqb j 0 (λ z. omega arith)
+
+          pub select-fewer : k ≤ r → refused TooFewUses ≡ select m N k s n j
+          unfolding select
+          select-fewer h = sym (simp (e, positive, lt-ltb _ j (few h))) ∙ w .0 _
+
+          pub select-found : r < k → accepted (r, v) ≡ select m N k s n j
+          unfolding select selectIn
+          select-found h = ap₂ (λ (x y : ℕ). accepted (x, y)) (w .2 e .0) (w .2 e .1) ∙ sym (simp (e, positive, le-ltb _ j (enough h))) ∙ w .0 _

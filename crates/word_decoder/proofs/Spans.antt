@@ -1,20 +1,21 @@
 -- Numbers taken in parts: those before a span, those in it, and those behind it.
 use mathlib.Core.Path.{_≡_, refl, sym, ap, _∙_}
 use mathlib.Core.Bool.{Bool, true}
-use mathlib.Core.List.{List, [], _++_, append-assoc}
-use Prim.Native.Nat.{ℕ, _+_, _≤_, _<_}
+use mathlib.Core.List.{List, [], _++_, append-assoc, flatten}
+use Prim.Native.Nat.{ℕ, _+_, _*_, _≤_, _<_}
 use native.Mathlib.Omega.{arith}
 use native.Mathlib.Decide.{decLe}
-use lib.ListN.{length, take, drop, length-append, length-take, drop-of-length-le}
-use lib.Seq.{slice, take-all, take-append-le, drop-append-le}
+use lib.ListN.{length, take, drop, length-append, length-take, length-drop, drop-of-length-le}
+use lib.Seq.{slice, take-nil, drop-nil, take-all, take-append-le, drop-append-le}
 use Rattle.fibonacci.specs.Code.{sum}
 use Rattle.fibonacci.specs.Encoding.{rowBits}
-use Rattle.fibonacci.specs.Calls.{isNumber, longest}
-use Rattle.fibonacci.proofs.Sums.{sum-append}
-use Rattle.fibonacci.proofs.Each.{all-append}
+use Rattle.calls.proofs.Each.{all-append}
+use Rattle.calls.specs.Limits.{isNumber, largest, longest}
+use Rattle.fibonacci.proofs.Sums.{sum-append, slice-most}
 use Rattle.fibonacci.proofs.Rows.{bits-append}
-use Rattle.word_decoder.specs.declared.Front.{Front}
-use Rattle.word_decoder.specs.Words.{Taken, Summed, Begun}
+use Rattle.word_decoder.specs.declared.Part.{Part}
+use Rattle.word_decoder.specs.declared.Reach.{Reach}
+use Rattle.word_decoder.specs.Words.{Taken, Summed, Begun, Spanned}
 use Rattle.word_decoder.proofs.Taking.{taken-none}
 
 taken-append : (m limit : ℕ) (b : List Bool) (k e f : ℕ) (xs ys : List ℕ) → Taken m limit b k e xs → Taken m limit b e f ys → Taken m limit b k f (xs ++ ys)
@@ -28,26 +29,27 @@ taken-append m limit b k e f xs ys x y =
     }
 
 -- nothing yet
-pub begun-none : (m limit : ℕ) (b : List Bool) → Begun m limit b (record { bit = 0; count = 0; sum = 0 }) []
+pub begun-none : (m limit : ℕ) (b : List Bool) → Begun m limit b 0 0 []
 begun-none m limit b = record { taken = taken-none m limit b 0 (omega arith); many = refl; most = omega arith }
 
--- another part
-module _ {m limit : ℕ} {b : List Bool} {f : Front} {row : List ℕ} (g : Begun m limit b f row) where
-  pub begun-more : (until : ℕ) (f' : Front) → until ≤ longest → (s : Summed m limit b f until f') → Begun m limit b f' (row ++ s .row)
-  begun-more until f' h s =
+module _ {m limit : ℕ} {b : List Bool} {bit count : ℕ} {row : List ℕ} (g : Begun m limit b bit count row) where
+  -- another part
+  pub begun-more : (until : ℕ) (p : Part) → until ≤ longest → (s : Summed m limit b (record { bit = bit; count = count }) until p)
+      → Begun m limit b (p .bit) (p .count) (row ++ s .row)
+  begun-more until p h s =
       record {
-        taken = taken-append m limit b 0 (f .bit) (f' .bit) row (s .row) (g .taken) (s .taken);
+        taken = taken-append m limit b 0 bit (p .bit) row (s .row) (g .taken) (s .taken);
         many = omega (arith, length-append row (s .row), g .many, s .many);
         most =
-            elim (decLe (f .count) until) [
+            elim (decLe count until) [
               | yes l ↦ omega (arith, s .few l)
               | no l ↦ omega (arith, s .many, ap length (s .none (omega arith)), g .most)
             ];
       }
 
-  -- with another sum
-  pub begun-as : (x : ℕ) → Begun m limit b (record { bit = f .bit; count = f .count; sum = x }) row
-  begun-as x = record { taken = g .taken; many = g .many; most = g .most }
+  -- the bits of the numbers taken end where they were taken to
+  pub begun-end : bit ≡ length (rowBits m row)
+  begun-end = omega (arith, ap length (g .taken .bits), length-append (rowBits m row) (drop bit b), length-drop bit b, g .taken .within)
 
 -- ## Sums
 
@@ -65,7 +67,7 @@ module _ (from to until add : ℕ) (xs ys : List ℕ) (i : ℕ) (l : length xs �
   part-after : to ≤ i → sum (slice from to (xs ++ ys)) ≡ sum (slice from to xs)
   part-after t = rw (take-append-le to xs ys (omega arith)) refl
 
-  pub part-more : (old : ℕ) → old ≡ sum (slice from to xs) → (i < from → until ≤ from) → (from ≤ i → i < to → until ≤ to)
+  part-more : (old : ℕ) → old ≡ sum (slice from to xs) → (i < from → until ≤ from) → (from ≤ i → i < to → until ≤ to)
       → (from ≤ i → i < to → add ≡ sum ys) → (i < from → add ≡ 0) → (to ≤ i → add ≡ 0) → old + add ≡ sum (slice from to (xs ++ ys))
   part-more old is u v inside before after =
       elim (decLe from i) [
@@ -76,3 +78,59 @@ module _ (from to until add : ℕ) (xs ys : List ℕ) (i : ℕ) (l : length xs �
             ]
         | no f ↦ omega (arith, before (omega arith), part-before (u (omega arith)))
       ]
+
+-- ## Where a span begins
+
+-- where a place begins: more numbers were taken, and none past the place with some before it
+start-more : (m from until : ℕ) (xs ys : List ℕ) (old new bit i count : ℕ) → length xs ≡ i → length (xs ++ ys) ≡ count → count ≤ until
+    → (i < from → until ≤ from) → old ≡ length (rowBits m (take from xs)) → bit ≡ length (rowBits m (xs ++ ys))
+    → (count ≤ from → new ≡ bit) × (from < count → new ≡ old) → new ≡ length (rowBits m (take from (xs ++ ys)))
+start-more m from until xs ys old new bit i count l k few u is end e =
+    elim (decLe count from) [
+      | yes h ↦ e .0 h ∙ end ∙ ap (λ (r : List ℕ). length (rowBits m r)) (sym (take-all from (xs ++ ys) (omega arith)))
+      | no h ↦
+          let in-xs : from ≤ length xs =
+          elim (decLe from i) [
+            | yes f ↦ omega arith
+            | no f ↦ absurd (omega (arith, u (omega arith)))
+          ] in
+          e .1 (omega arith) ∙ is ∙ ap (λ (r : List ℕ). length (rowBits m r)) (sym (take-append-le from xs ys in-xs))
+    ]
+
+-- ## What is known of a span
+
+pub spanned-none : (m limit from to : ℕ) (b : List Bool) → Spanned m limit from to b (record { bit = 0; count = 0; sum = 0; all = 0; start = 0 })
+spanned-none m limit from to b =
+    record {
+      row = [];
+      begun = begun-none m limit b;
+      total = sym (ap sum (ap (drop from) (take-nil to) ∙ drop-nil from));
+      everything = refl;
+      starts = unfold rowBits flatten in rw (take-nil from) refl;
+    }
+
+module _ {m limit from to : ℕ} {b : List Bool} {f : Reach} (g : Spanned m limit from to b f) where
+  -- no sum is larger than 4,096 times the largest number
+  module _ (top : limit ≤ largest) (bit count : ℕ) (ys : List ℕ) (more : Begun m limit b bit count (g .row ++ ys)) where
+    pub spanned-most : (f .sum ≤ largest * longest) × (f .all + sum ys ≤ largest * longest)
+    spanned-most =
+        let row : List ℕ = g .row ++ ys in
+        let every : sum (slice 0 (length row) row) ≡ sum row = ap sum (take-all (length row) row (omega arith)) in (
+          omega (arith, g .total, slice-most limit top (g .row) from to (g .begun .taken .legal), g .begun .many, g .begun .most),
+          omega (arith, g .everything, sum-append (g .row) ys, every, slice-most limit top row 0 (length row) (more .taken .legal), more .many, more .most),
+        )
+
+  -- another part of it, no further than the span's begin or end
+  pub spanned-more : (until : ℕ) (ys : List ℕ) (add : ℕ) (f' : Reach) → Begun m limit b (f' .bit) (f' .count) (g .row ++ ys) → f' .count ≤ until
+      → (f .count < from → until ≤ from) → (from ≤ f .count → f .count < to → until ≤ to)
+      → (from ≤ f .count → f .count < to → add ≡ sum ys) → (f .count < from → add ≡ 0) → (to ≤ f .count → add ≡ 0) → f' .sum ≡ f .sum + add
+      → f' .all ≡ f .all + sum ys → (f' .count ≤ from → f' .start ≡ f' .bit) × (from < f' .count → f' .start ≡ f .start) → Spanned m limit from to b f'
+  spanned-more until ys add f' more few u v inside before after total all start =
+      record {
+        row = g .row ++ ys;
+        begun = more;
+        total = total ∙ part-more from to until add (g .row) ys (f .count) (g .begun .many) (omega (arith, more .many)) (f .sum) (g .total) u v inside before after;
+        everything = omega (arith, sum-append (g .row) ys, g .everything);
+        starts =
+            start-more m from until (g .row) ys (f .start) (f' .start) (f' .bit) (f .count) (f' .count) (g .begun .many) (more .many) few u (g .starts) (begun-end more) start;
+      }

@@ -11,11 +11,10 @@ use lib.Count.{leadingZeros}
 use Rattle.bits.specs.Bits.{wordBits}
 use Rattle.fibonacci.specs.Code.{value, first, number, codeword, Codeword}
 use Rattle.fibonacci.specs.Encoding.{rowBits}
-use Rattle.fibonacci.specs.Calls.{isNumber, largest}
-use Rattle.fibonacci.specs.Tables.{Order}
-use Rattle.fibonacci.proofs.Checks.{number-is, is-number}
+use Rattle.calls.proofs.Checks.{number-is, is-number}
+use Rattle.calls.proofs.Each.{all-append}
+use Rattle.calls.specs.Limits.{isNumber, largest, Order}
 use Rattle.fibonacci.proofs.Lookup as lookup
-use Rattle.fibonacci.proofs.Each.{all-append}
 use Rattle.fibonacci.proofs.Numbers.{codeword-number, number-of}
 use Rattle.fibonacci.proofs.Rows.{bits-append}
 use Rattle.word_windows.specs.Windows.{Judged, starts, Ahead}

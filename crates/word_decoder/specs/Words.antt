@@ -3,12 +3,14 @@ use mathlib.Core.Path.{_≡_}
 use mathlib.Core.Bool.{Bool}
 use mathlib.Core.List.{List, [], _++_}
 use Prim.Native.Nat.{ℕ, _+_, _≤_}
-use lib.ListN.{length, drop}
-use lib.Seq.{sets, slice}
+use lib.ListN.{length, take, drop}
+use lib.Seq.{slice}
 use Rattle.fibonacci.specs.Code.{sum}
 use Rattle.fibonacci.specs.Encoding.{rowBits}
-use Rattle.fibonacci.specs.Calls.{Legal, longest}
+use Rattle.calls.specs.Limits.{Legal, longest}
 use Rattle.word_decoder.specs.declared.Front.{Front}
+use Rattle.word_decoder.specs.declared.Part.{Part}
+use Rattle.word_decoder.specs.declared.Reach.{Reach}
 
 -- The bits of b from bit k up to bit e are those of a row, whose numbers go up to a limit
 pub record Taken (m limit : ℕ) (b : List Bool) (k e : ℕ) (row : List ℕ) : Type 0 where
@@ -16,8 +18,8 @@ pub record Taken (m limit : ℕ) (b : List Bool) (k e : ℕ) (row : List ℕ) : 
   pub legal : Legal limit row
   pub within : e ≤ length b
 
--- Codewords were taken from one front of b on to another, as long as there were fewer than `until`, and their numbers summed
-pub record Summed (m limit : ℕ) (b : List Bool) (from : Front) (until : ℕ) (to : Front) : Type 0 where
+-- Codewords were taken from a front of b on, as long as there were fewer than `until`, and their numbers summed
+pub record Summed (m limit : ℕ) (b : List Bool) (from : Front) (until : ℕ) (to : Part) : Type 0 where
   pub row : List ℕ
   pub taken : Taken m limit b (from .bit) (to .bit) row
   pub many : to .count ≡ from .count + length row
@@ -25,20 +27,20 @@ pub record Summed (m limit : ℕ) (b : List Bool) (from : Front) (until : ℕ) (
   pub few : from .count ≤ until → to .count ≤ until
   pub none : until ≤ from .count → row ≡ []
 
--- The codewords of a row were taken from the start of b on, up to a front
-pub record Begun (m limit : ℕ) (b : List Bool) (f : Front) (row : List ℕ) : Type 0 where
-  pub taken : Taken m limit b 0 (f .bit) row
-  pub many : length row ≡ f .count
-  pub most : f .count ≤ longest
+-- The codewords of a row were taken from the start of b on, up to a bit, so many
+pub record Begun (m limit : ℕ) (b : List Bool) (bit count : ℕ) (row : List ℕ) : Type 0 where
+  pub taken : Taken m limit b 0 bit row
+  pub many : length row ≡ count
+  pub most : count ≤ longest
 
--- .. and its numbers from one place up to but without another summed
-pub record Spanned (m limit from to : ℕ) (b : List Bool) (f : Front) : Type 0 where
+-- .. its numbers from one place up to but without another summed, and all of them; and the bit known where that place begins, as far as it was reached
+pub record Spanned (m limit from to : ℕ) (b : List Bool) (f : Reach) : Type 0 where
   pub row : List ℕ
-  pub begun : Begun m limit b f row
+  pub begun : Begun m limit b (f .bit) (f .count) row
   pub total : f .sum ≡ sum (slice from to row)
+  pub everything : f .all ≡ sum row
+  pub starts : f .start ≡ length (rowBits m (take from row))
 
--- .. and its numbers stored in a list
-pub record Stored (m limit : ℕ) (b : List Bool) (before after : List ℕ) (f : Front) : Type 0 where
-  pub row : List ℕ
-  pub begun : Begun m limit b f row
-  pub stored : after ≡ sets before 0 row
+-- .. and its numbers stored in a list, which begins with them then
+abbrev pub Stored : ℕ → ℕ → List Bool → List ℕ → List ℕ → Front → Type 0
+Stored m limit b before after f = Begun m limit b (f .bit) (f .count) (take (f .count) after) × (length after ≡ length before)

@@ -7,7 +7,7 @@ use lib.Dec.{leb}
 use lib.ListN.{length, take, drop, replicate}
 use Rattle.bits.specs.Bits.{wordBits}
 use Rattle.fibonacci.specs.Code.{lead}
-use Rattle.fibonacci.specs.Calls.{isNumber, largest}
+use Rattle.calls.specs.Limits.{isNumber, largest}
 
 -- n is x where x is at most the largest number; else it is no number of a row
 abbrev pub Judged : ℕ → ℕ → Type 0

@@ -5,8 +5,8 @@ ghost use Prim.Native.Nat.{_+_, _-_, _*_, _^_, _≤_, _<_};
 ghost use lib.ListN.{length, take, getD};
 ghost use Rattle.bits.specs.Bits.{wordBits, unpack};
 ghost use Rattle.fibonacci.specs.Code.{value, first};
-ghost use Rattle.fibonacci.specs.Tables.{Order, tableRow};
-ghost use Rattle.fibonacci.specs.Calls.{largest};
+ghost use Rattle.calls.specs.Limits.{Order, largest};
+ghost use Rattle.fibonacci.specs.Tables.{Firsts};
 ghost use Rattle.digit_tables.specs.Values.{byteValues};
 ghost use Rattle.word_windows.specs.Windows.{Judged, starts, Ahead};
 
@@ -26,10 +26,10 @@ fn marks(w: u64, order: usize) -> u64
         return two;
     }
     if order <= 4 {
-        return two & two << (order - 2);
+        return two & two << (order >> 1);
     }
     let four = two & two << 2;
-    four & four << (order - 4)
+    four & four << (order & 3)
 }
 
 // The window from a bit on; an empty one where fewer than eight bytes are left there. The decoder has checked the order, and stays within the bytes.
@@ -51,7 +51,7 @@ pub fn ahead(s: &[u8], order: usize, bit: usize) -> Window
 // The number of the codeword whose bits before its last ones are the first `len` of a word. Where it is above 4,294,967,295, what is returned is so too, or 0. The
 // decoder has the tables from `digit_tables` and `fibonacci`, and a word that begins with such bits.
 pub fn number(values: &[u32; 1536], firsts: &[u32; 47], order: usize, w: u64, len: usize) -> u64
-    requires { ⌜ Order order × (now values ≡ byteValues order) × (now firsts ≡ tableRow (first order)) × (1 ≤ len → getD (wordBits 64 w) (len - 1) false ≡ false) ⌝ }
+    requires { ⌜ Firsts order (now firsts) × (now values ≡ byteValues order) × (1 ≤ len → getD (wordBits 64 w) (len - 1) false ≡ false) ⌝ }
     ensures { λ r. ⌜ Judged (first order len + value order 1 (take len (wordBits 64 w))) r × (r ≤ 7 * largest) ⌝ }
 {
     if len <= 9 {

@@ -4,8 +4,9 @@ use mathlib.Core.List.{flatten}
 use Rattle.bits.specs.Bits.{bitOf, wordBits, unpack, wordOf, bytesOf, pack, count, place}
 use Rattle.fibonacci.specs.Code.{past, F, value, first, number, size, digits, codeword}
 use Rattle.fibonacci.specs.Encoding.{rowBits, encoding, parseAfter, parse, numbers}
-use Rattle.fibonacci.specs.Calls.{isOrder, isNumber, checkEach}
-use Rattle.reading.specs.Reading.{checkFinished, contents, decode, read, readInto}
+use Rattle.calls.specs.Limits.{isOrder, isNumber, checkEach}
+use Rattle.calls.specs.Reading.{checkFinished, contents, decode}
+use Rattle.reading.specs.Reading.{read, readInto}
 use Rattle.totals.specs.Totals.{total}
 use Rattle.encoder.specs.Writing.{write, writeInto}
 use Rattle.wavelet.specs.Nodes.{those, begins, goesOn, prune, tree, nodes, visits}

@@ -12,17 +12,19 @@ use Rattle.bits.specs.Bits.{bitOf, wordBits, unpack, wordOf, bytesOf, byteCount
 use Rattle.bits.proofs.Packing.{pack-length}
 use Rattle.fibonacci.specs.Code.{past, F, value, first, number, size, digits, codeword}
 use Rattle.fibonacci.specs.Encoding.{rowBits, encoding, parseAfter, parse, numbers}
-use Rattle.fibonacci.specs.Tables.{Order}
-use Rattle.fibonacci.specs.Calls.{accepted, refused, isOrder, isNumber, Legal, largest, longest, checkEach}
-use Rattle.fibonacci.proofs.Checks.{is-order, positive}
+use Rattle.calls.proofs.Checks.{is-order, positive}
+use Rattle.calls.specs.declared.Refusal.the-variants.{TooManyNumbers, TooManyCodewords, FullRow}
+use Rattle.calls.specs.Calls.{accepted, refused}
+use Rattle.calls.specs.Limits.{Order, isOrder, isNumber, Legal, largest, longest, checkEach}
+use Rattle.calls.specs.Reading.{checkFinished, contents, decode}
 use Rattle.fibonacci.proofs.Rows.{encoding-read}
-use Rattle.reading.specs.Reading.{checkFinished, contents, decode, read, readInto}
+use Rattle.reading.specs.Reading.{fibonacci, read, readInto}
 use Rattle.reading.proofs.Checking.{contents-many}
 use Rattle.reading.proofs.Decoding.{decode-contents}
 use Rattle.encoder.specs.Writing.{write}
 use Rattle.encoder.proofs.Writing.{write-accepts}
 use Rattle.appender.specs.Appending.{append}
-use Rattle.appender.proofs.Appending.{given-read, append-full}
+use Rattle.appender.proofs.Appending.{extend-full, append-read}
 use Rattle.appender.proofs.RoundTrip.{decode-encoding, legal-same}
 use Rattle.worked.specs.Pencil.{answer}
 use Rattle.worked.specs.Sentences.{onesRow, Largest, Sentences}
@@ -64,30 +66,30 @@ module _ (m : ℕ) (o : Order m) where
       (record { order = o; count = omega (arith, ones-length longest); legal = ones-legal longest; fits = omega (arith, full-bytes) })
       ∙ ap₂ (λ (k n : ℕ). accepted (k, n)) full-bytes (ones-bits m longest)
 
-  written : (room : ℕ) → write m (onesRow (suc longest)) room ≡ refused 4 0
+  written : (room : ℕ) → write m (onesRow (suc longest)) room ≡ refused TooManyNumbers
   unfolding write
   written room = rw (is-order m o, lt-ltb longest (length (onesRow (suc longest))) (omega (arith, ones-length (suc longest))))
 
-  decoded : decode m (encoding m (onesRow (suc longest))) ≡ refused 4 0
+  decoded : decode (fibonacci m) largest (encoding m (onesRow (suc longest))) ≡ refused TooManyCodewords
   decoded =
-      decode-contents m (encoding m (onesRow (suc longest))) (is-order m o) (omega (arith, ones-bytes m (suc longest)))
-      ∙ contents-many largest m (unpack (encoding m (onesRow (suc longest)))) (onesRow longest) (ones-legal longest) 1 []
+      decode-contents m largest (encoding m (onesRow (suc longest))) (omega (arith, ones-bytes m (suc longest)))
+      ∙ contents-many largest m (encoding m (onesRow (suc longest))) (onesRow longest) (ones-legal longest) 1 []
       (encoding-read m (onesRow (suc longest)) (omega arith) (positive largest (onesRow (suc longest)) (ones-legal (suc longest))) ∙ ones-more longest)
       (ones-length longest)
 
-  read-back : (room : ℕ) → read m (encoding m (onesRow (suc longest))) room ≡ refused 4 0
+  read-back : (room : ℕ) → read m (encoding m (onesRow (suc longest))) room ≡ refused TooManyCodewords
   unfolding read
-  read-back room = rw decoded
+  read-back room = rw (is-order m o, decoded)
 
-  appended : (after : List ℕ) → append m (encoding m (onesRow longest) ++ after) (512 * m) 1 ≡ refused 4 0
+  appended : (after : List ℕ) → append m (encoding m (onesRow longest) ++ after) (512 * m) 1 ≡ refused FullRow
   unfolding isNumber
   appended after =
       let s : List ℕ = encoding m (onesRow longest) in
       let front : take (512 * m) (s ++ after) ≡ s = ap (λ (k : ℕ). take k (s ++ after)) (sym full-bytes) ∙ take-append-seam s after in
-      let held : decode m (take (512 * m) (s ++ after)) ≡ accepted (onesRow longest) =
-      ap (decode m) front ∙ decode-encoding m (onesRow longest) o (omega (arith, ones-length longest)) (ones-legal longest) in
-      let given = given-read m (s ++ after) (512 * m) (onesRow longest) (omega (arith, length-append s after, full-bytes)) held in
-      sym (append-full m (s ++ after) (512 * m) 1 given (onesRow longest) held refl (ones-length longest) .0)
+      let held : decode (fibonacci m) largest (take (512 * m) (s ++ after)) ≡ accepted (onesRow longest) =
+      ap (decode (fibonacci m) largest) front ∙ decode-encoding m (onesRow longest) o (omega (arith, ones-length longest)) (ones-legal longest) in
+      append-read m (s ++ after) (512 * m) 1 (is-order m o) (omega (arith, length-append s after, full-bytes)) (onesRow longest) held
+      ∙ extend-full m (length (s ++ after)) (onesRow longest) 1 refl (omega (arith, ones-length longest))
 
 -- ## The largest number
 

@@ -5,8 +5,9 @@ use Prim.Native.Nat.{ℕ, suc, _*_, _≤_}
 use lib.ListN.{replicate}
 use Rattle.fibonacci.specs.Code.{valuesFrom}
 use Rattle.fibonacci.specs.Encoding.{encoding}
-use Rattle.fibonacci.specs.Tables.{Order}
-use Rattle.fibonacci.specs.Calls.{accepted, refused, largest, longest}
+use Rattle.calls.specs.declared.Refusal.the-variants.{TooManyNumbers, TooManyCodewords, FullRow}
+use Rattle.calls.specs.Calls.{accepted, refused}
+use Rattle.calls.specs.Limits.{Order, largest, longest}
 use Rattle.reading.specs.Reading.{read}
 use Rattle.encoder.specs.Writing.{write}
 use Rattle.appender.specs.Appending.{append}
@@ -20,9 +21,9 @@ onesRow k = replicate k 1
 pub record Ones (m : ℕ) : Type 0 where
   pub full : (room : ℕ) → 512 * m ≤ room → write m (onesRow longest) room ≡ accepted (512 * m, 4096 * m)
   -- a 4,097th in writing, in reading and in appending
-  pub written : (room : ℕ) → write m (onesRow (suc longest)) room ≡ refused 4 0
-  pub read-back : (room : ℕ) → read m (encoding m (onesRow (suc longest))) room ≡ refused 4 0
-  pub appended : (after : List ℕ) → append m (encoding m (onesRow longest) ++ after) (512 * m) 1 ≡ refused 4 0
+  pub written : (room : ℕ) → write m (onesRow (suc longest)) room ≡ refused TooManyNumbers
+  pub read-back : (room : ℕ) → read m (encoding m (onesRow (suc longest))) room ≡ refused TooManyCodewords
+  pub appended : (after : List ℕ) → append m (encoding m (onesRow longest) ++ after) (512 * m) 1 ≡ refused FullRow
 
 -- What the orders 2 to 6 give
 abbrev pub orders : {A : Type 0} → (ℕ → A) → List A
@@ -32,8 +33,8 @@ orders f = valuesFrom f 2 5
 pub record Largest : Type 0 where
   -- its bytes and bits in each order
   pub written : orders (λ m. write m (largest ∷ []) 6) ≡ accepted (6, 47) ∷ accepted (5, 39) ∷ accepted (5, 38) ∷ accepted (5, 38) ∷ accepted (5, 39) ∷ []
-  pub read-back : orders (λ m. answer (Read m (encoding m (largest ∷ [])) 1)) ≡ replicate 5 (accepted (1 ∷ []), largest ∷ [])
-  pub next : orders (λ m. answer (Read m (encoding m (suc largest ∷ [])) 1)) ≡ replicate 5 (refused 7 0, 0 ∷ [])
+  pub read-back : orders (λ m. answer (Read m (encoding m (largest ∷ [])) 1)) ≡ replicate 5 (0, 1 ∷ [], largest ∷ [])
+  pub next : orders (λ m. answer (Read m (encoding m (suc largest ∷ [])) 1)) ≡ replicate 5 (7, [], 0 ∷ [])
 
 -- For every order
 pub record Sentences : Type 0 where

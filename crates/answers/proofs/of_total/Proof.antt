@@ -11,12 +11,6 @@ accepted-requires c κs = search needs
 enum-known-a-2 : tie.Need-enum-known-a-2
 enum-known-a-2 c = search needs
 
-unread-requires : tie.Need-unread-requires
-unread-requires c κs = search needs
-
-enum-told : tie.Need-enum-told
-enum-told c = search needs
-
 refused-requires : tie.Need-refused-requires
 refused-requires c κs = search needs
 
@@ -24,21 +18,7 @@ returns : tie.Need-returns
 returns c = rw (c .before .before .a .given .1) (c .accepted .ensures)
 
 returns-2 : tie.Need-returns-2
-returns-2 c = rw (c .before .before .a2 .given .1) (c .unread .ensures)
-
-returns-3 : tie.Need-returns-3
-returns-3 c = rw (c .before .enum-told .given .1) (c .refused .ensures)
+returns-2 c = rw (c .before .before .a2 .given .1) (c .refused .ensures)
 
 pub of-total-spec : {M : Type 1} → statement M
-of-total-spec =
-    tie.close
-    (tie.spec
-    enum-known-a
-    accepted-requires
-    enum-known-a-2
-    unread-requires
-    enum-told
-    refused-requires
-    returns
-    returns-2
-    returns-3)
+of-total-spec = tie.close (tie.spec enum-known-a accepted-requires enum-known-a-2 refused-requires returns returns-2)

@@ -8,61 +8,17 @@ enum-known-a c = search needs
 accepted-requires : tie.Need-accepted-requires
 accepted-requires c κs = search needs
 
-enum-told : tie.Need-enum-told
-enum-told c = search needs
-
-refused-requires : tie.Need-refused-requires
-refused-requires c κs = search needs
-
-enum-told-2 : tie.Need-enum-told-2
-enum-told-2 c = search needs
-
-refused-requires-2 : tie.Need-refused-requires-2
-refused-requires-2 c κs = search needs
-
 enum-known-a-2 : tie.Need-enum-known-a-2
 enum-known-a-2 c = search needs
 
-refused-requires-3 : tie.Need-refused-requires-3
-refused-requires-3 c κs = search needs
-
-enum-told-3 : tie.Need-enum-told-3
-enum-told-3 c = search needs
-
-refused-requires-4 : tie.Need-refused-requires-4
-refused-requires-4 c κs = search needs
+refused-requires : tie.Need-refused-requires
+refused-requires c κs = search needs
 
 returns : tie.Need-returns
 returns c = rw (c .before .before .a .given .1) (c .accepted .ensures)
 
 returns-2 : tie.Need-returns-2
-returns-2 c = rw (c .before .enum-told .given .1) (c .refused .ensures)
-
-returns-3 : tie.Need-returns-3
-returns-3 c = rw (c .before .enum-told2 .given .1) (c .refused2 .ensures)
-
-returns-4 : tie.Need-returns-4
-returns-4 c = rw (c .before .before .a2 .given .1) (c .refused3 .ensures)
-
-returns-5 : tie.Need-returns-5
-returns-5 c = rw (c .before .enum-told3 .given .1) (c .refused4 .ensures)
+returns-2 c = rw (c .before .before .a2 .given .1) (c .refused .ensures)
 
 pub of-write-spec : {M : Type 1} → statement M
-of-write-spec =
-    tie.close
-    (tie.spec
-    enum-known-a
-    accepted-requires
-    enum-told
-    refused-requires
-    enum-told-2
-    refused-requires-2
-    enum-known-a-2
-    refused-requires-3
-    enum-told-3
-    refused-requires-4
-    returns
-    returns-2
-    returns-3
-    returns-4
-    returns-5)
+of-write-spec = tie.close (tie.spec enum-known-a accepted-requires enum-known-a-2 refused-requires returns returns-2)

@@ -4,7 +4,7 @@ use native.Mathlib.Omega.{arith}
 use native.Mathlib.Numerals.{add-one}
 use borrow.Author.Needs.{needs}
 use Rattle.fibonacci.specs.Code.{ones, value, first}
-use Rattle.fibonacci.specs.Calls.{largest}
+use Rattle.calls.specs.Limits.{largest}
 use Rattle.fibonacci.proofs.Numbers.{first-pos, first-rises, value-ones}
 use Rattle.fibonacci.proofs.Lookup.{bounded-is, bounded-none, bounded-some}
 use Rattle.bit_decoder.proofs.ones_value.Statement.{statement}

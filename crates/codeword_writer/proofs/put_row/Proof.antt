@@ -8,8 +8,8 @@ use borrow.Author.Needs.{needs}
 use Rattle.bits.specs.Bits.{wordBits, unpack, byteCount, putTo, putAt}
 use Rattle.bits.proofs.Words.{words-length}
 use Rattle.bits.proofs.Put.{put-within, put-part}
-use Rattle.fibonacci.specs.Calls.{largest, longest}
-use Rattle.fibonacci.proofs.Checks.{number-is, legal-at}
+use Rattle.calls.proofs.Checks.{number-is, legal-at}
+use Rattle.calls.specs.Limits.{largest, longest}
 use Rattle.codeword_writer.proofs.Rows.{bits-few, Put, put-none, put-room, put-next, put-end}
 use Rattle.codeword_writer.proofs.put_row.Statement.{statement}
 use Rattle.codeword_writer.proofs.put_row.Tie as tie
@@ -31,8 +31,8 @@ module _ (c : tie.After-coded Inv-loop μ-loop) where
       let p = c .before .before .before .before .before .before .before .pre in
       let l = c .before .before .before .before .loop in
       let n = c .before .wide in (
-        omega (arith, p .5, c .coded .ensures .2, put-room (a .order) (a .row .now) (a .bytes) (l .i) (l .at) _ _ (l .inv .3) (n .result) (omega arith) (n .ensures)),
-        omega (arith, p .5, p .3, bits-few (a .order) (a .row .now) (p .0) (p .4)),
+        omega (arith, p .3, c .coded .ensures .2, put-room (a .order) (a .row .now) (a .bytes) (l .i) (l .at) _ _ (l .inv .3) (n .result) (omega arith) (n .ensures)),
+        omega (arith, p .3, p .1, bits-few (a .order) (a .row .now) (p .0 .0 .0) (p .2)),
       )
 
   -- it stands in the buffer, with zeros up to bit d
@@ -70,8 +70,8 @@ coded-requires c κs =
     let a = c .before .before .before .before .before .before .args in
     let p = c .before .before .before .before .before .before .pre in
     let n = c .wide in
-    let legal = number-is largest (n .result) (rw (n .ensures) (legal-at largest (a .row .now) (c .before .before .before .loop .i) (p .4) (omega arith))) in
-    (p .0, p .1, p .2, legal .0, legal .1, p .7)
+    let legal = number-is largest (n .result) (rw (n .ensures) (legal-at largest (a .row .now) (c .before .before .before .loop .i) (p .2) (omega arith))) in
+    (p .0, legal .0, legal .1)
 
 add-if1 : tie.Need-add-if1 Inv-loop μ-loop
 add-if1 c = omega (arith, room c)
@@ -139,7 +139,7 @@ returns : tie.Need-returns Inv-loop μ-loop
 returns c =
     let a = c .before .before .before .before .args in
     let l = c .before .loop in
-    put-end (a .order) (a .row .now) (a .bytes) (l .i) (l .at) (unpack (l .out)) (unpack (a .out .now)) (l .inv .3) (omega arith) (c .before .before .before .before .pre .5)
+    put-end (a .order) (a .row .now) (a .bytes) (l .i) (l .at) (unpack (l .out)) (unpack (a .out .now)) (l .inv .3) (omega arith) (c .before .before .before .before .pre .3)
 
 pub put-row-spec : {M : Type 1} → statement M
 put-row-spec =

@@ -32,7 +32,7 @@ start : (c : tie.After-first-number Inv-loop μ-loop)
 start c =
     let a = c .before .args in
     let p = c .before .pre in
-    begun-start (a .order) (a .n) (a .d) (p .0) (p .3) (p .4) (p .5) (c .first-number .result) (c .first-number .ensures)
+    begun-start (a .order) (a .n) (a .d) (p .0 .0) (p .2) (p .3) (p .4) (c .first-number .result) (c .first-number .ensures)
 
 sub-above : tie.Need-sub-above Inv-loop μ-loop
 sub-above c = start c .0
@@ -48,7 +48,7 @@ loop-holds c =
     let same : left + 2 ^ 32 - 2 ^ 32 ≡ left = omega arith in (
       omega arith,
       omega arith,
-      omega (arith, stem-long (a .order) (a .n) (a .d) (p .0) (p .3) (p .4) (p .5)),
+      omega (arith, stem-long (a .order) (a .n) (a .d) (p .0 .0) (p .2) (p .3) (p .4)),
       omega arith,
       omega arith,
       rw same (start c .1),
@@ -59,14 +59,14 @@ position-requires c κs =
     let a = c .before .before .before .args in
     let p = c .before .before .before .pre in
     let l = c .before .loop in
-    (p .0, p .1, position-legal (a .order) (a .n) (a .d) (p .0) (p .3) (p .4) (p .5) (l .j) (l .inv .0))
+    (p .0, position-legal (a .order) (a .n) (a .d) (p .0 .0) (p .2) (p .3) (p .4) (l .j) (l .inv .0))
 
 digit-requires : tie.Need-digit-requires Inv-loop μ-loop
 digit-requires c κs =
     let a = c .before .before .before .before .args in
     let p = c .before .before .before .before .pre in
     let l = c .before .before .loop in (
-      omega (arith, c .position .ensures, position-legal (a .order) (a .n) (a .d) (p .0) (p .3) (p .4) (p .5) (l .j) (l .inv .0)),
+      omega (arith, c .position .ensures, position-legal (a .order) (a .n) (a .d) (p .0 .0) (p .2) (p .3) (p .4) (l .j) (l .inv .0)),
       l .inv .3,
       omega (arith, l .inv .4),
     )

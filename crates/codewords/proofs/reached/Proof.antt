@@ -26,7 +26,7 @@ wide-requires c κs = search needs
 looked : (c : tie.After-wide) → c .wide .result ≡ bounded (first (c .before .before .args .order) (c .before .before .args .d))
 looked c =
     let z = c .before .before in
-    c .wide .ensures ∙ ap (λ (l : List ℕ). getD l (z .args .d) 0) (z .pre .1) ∙ entry-at (first (z .args .order)) (z .args .d) 0 (z .pre .2)
+    c .wide .ensures ∙ ap (λ (l : List ℕ). getD l (z .args .d) 0) (z .pre .0 .1) ∙ entry-at (first (z .args .order)) (z .args .d) 0 (z .pre .1)
 
 returns : tie.Need-returns
 returns c =
@@ -39,7 +39,7 @@ returns-2 c =
     let a = c .before .before .before .args in
     let x = c .before .wide in
     let none = ⊎-elim (λ t. inr (leb-false _ _ (t .1 .left))) (λ t. inl (t .left)) (c .if1 .came) in
-    (reached-none (a .order) (a .n) (a .d) (x .result) (c .before .before .before .pre .3) (looked (c .before)) none, omega arith)
+    (reached-none (a .order) (a .n) (a .d) (x .result) (c .before .before .before .pre .2) (looked (c .before)) none, omega arith)
 
 pub reached-spec : {M : Type 1} → statement M
 reached-spec = tie.close (tie.spec mul-wide element-copy-out-wide wide-requires returns returns-2)

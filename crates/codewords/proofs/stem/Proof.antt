@@ -38,7 +38,7 @@ returns c =
     let z = c .before .before .before .before in
     let g = c .before .before .before .guess in
     rw (c .before .before .reached .ensures .0, c .before .reached2 .ensures .0, c .reached3 .ensures .0)
-    (stem-is (z .args .order) (z .args .n) (g .result) (z .pre .0) (z .pre .2) (g .ensures .0) (g .ensures .1))
+    (stem-is (z .args .order) (z .args .n) (g .result) (z .pre .0 .0) (z .pre .1) (g .ensures .0) (g .ensures .1))
 
 pub stem-spec : {M : Type 1} → statement M
 stem-spec =

@@ -1,41 +1,90 @@
+use mathlib.Core.Path.{_≡_, sym, _∙_}
+use mathlib.Core.Bool.{true}
 use native.Mathlib.Omega.{arith}
 use borrow.Author.Needs.{needs}
+use borrow.Author.Tests.{not-true, not-false}
+use Rattle.calls.specs.Limits.{isOrder, largest}
+use Rattle.calls.specs.Reading.{decode}
+use Rattle.calls.proofs.Checks.{order-is}
+use Rattle.reading.specs.Reading.{fibonacci}
+use Rattle.reading.proofs.Decoding.{read-order}
+use Rattle.reading.proofs.Delivering.{holds-row, delivered-read}
 use Rattle.decoder.proofs.read.Statement.{statement}
 use Rattle.decoder.proofs.read.Tie as tie
 
-slice-aggregate-read-by : tie.Need-slice-aggregate-read-by
-slice-aggregate-read-by c = search needs
+-- the order has passed its check
+ordered : (c : tie.Else1) → isOrder (c .before .before .before .before .args .order) ≡ true
+ordered c = sym (c .before .is-order .ensures) ∙ not-false _ (c .if1 .left)
 
-read-by-requires : tie.Need-read-by-requires
-read-by-requires c κs = (omega arith, omega arith)
+is-order-requires : tie.Need-is-order-requires
+is-order-requires c κs = search needs
+
+returns : tie.Need-returns
+returns c = read-order _ _ _ (sym (c .before .is-order .ensures) ∙ not-true _ (c .if1 .taken))
+
+slice-aggregate-store-row : tie.Need-slice-aggregate-store-row
+slice-aggregate-store-row c = search needs
+
+store-row-requires : tie.Need-store-row-requires
+store-row-requires c κs = (order-is _ (ordered (c .before .before)), omega arith, omega (arith, c .before .if2 .taken))
+
+slice-aggregate-deliver : tie.Need-slice-aggregate-deliver
+slice-aggregate-deliver c = search needs
+
+deliver-requires : tie.Need-deliver-requires
+deliver-requires c κs =
+    let r = c .before .before .before in
+    let a = r .before .before .before .before .before .before .before .args in
+    holds-row (decode (fibonacci (a .order)) largest (a .s .now)) (r .store-row .last .1 .1 .1 .0) (r .store-row .result) (r .store-row .ensures .0) (r .store-row .ensures .1)
 
 same-length : tie.Need-same-length
 same-length c = search needs
 
-returns : tie.Need-returns
-returns c = search needs
+returns-2 : tie.Need-returns-2
+returns-2 c =
+    let d = c .before .before in
+    let r = d .before .before .before .before in
+    delivered-read _ _ _ _ _ (r .store-row .result) (d .deliver .result) (ordered (r .before .before .before)) (r .store-row .ensures .0) (r .store-row .ensures .1) (d .deliver .ensures)
 
-slice-aggregate-read-by-2 : tie.Need-slice-aggregate-read-by-2
-slice-aggregate-read-by-2 c = search needs
+slice-aggregate-store-row-2 : tie.Need-slice-aggregate-store-row-2
+slice-aggregate-store-row-2 c = search needs
 
-read-by-requires-2 : tie.Need-read-by-requires-2
-read-by-requires-2 c κs = (omega arith, omega arith)
+store-row-requires-2 : tie.Need-store-row-requires-2
+store-row-requires-2 c κs = (order-is _ (ordered (c .before .before)), omega arith, omega arith)
+
+slice-aggregate-deliver-2 : tie.Need-slice-aggregate-deliver-2
+slice-aggregate-deliver-2 c = search needs
+
+deliver-requires-2 : tie.Need-deliver-requires-2
+deliver-requires-2 c κs =
+    let r = c .before .before .before in
+    let a = r .before .before .before .before .before .before .before .args in
+    holds-row (decode (fibonacci (a .order)) largest (a .s .now)) (r .store-row2 .last .1 .1 .1 .0) (r .store-row2 .result) (r .store-row2 .ensures .0) (r .store-row2 .ensures .1)
 
 same-length-2 : tie.Need-same-length-2
 same-length-2 c = search needs
 
-returns-2 : tie.Need-returns-2
-returns-2 c = search needs
+returns-3 : tie.Need-returns-3
+returns-3 c =
+    let d = c .before .before in
+    let r = d .before .before .before .before in
+    delivered-read _ _ _ _ _ (r .store-row2 .result) (d .deliver2 .result) (ordered (r .before .before .before)) (r .store-row2 .ensures .0) (r .store-row2 .ensures .1) (d .deliver2 .ensures)
 
 pub read-spec : {M : Type 1} → statement M
 read-spec =
     tie.close
     (tie.spec
-    slice-aggregate-read-by
-    read-by-requires
-    same-length
+    is-order-requires
     returns
-    slice-aggregate-read-by-2
-    read-by-requires-2
+    slice-aggregate-store-row
+    store-row-requires
+    slice-aggregate-deliver
+    deliver-requires
+    same-length
+    returns-2
+    slice-aggregate-store-row-2
+    store-row-requires-2
+    slice-aggregate-deliver-2
+    deliver-requires-2
     same-length-2
-    returns-2)
+    returns-3)

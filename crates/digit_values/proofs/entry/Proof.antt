@@ -8,7 +8,7 @@ use borrow.Author.Needs.{needs}
 use Rattle.bits.specs.Bits.{wordBits}
 use Rattle.bits.proofs.Words.{words-mod}
 use Rattle.fibonacci.specs.Code.{value}
-use Rattle.fibonacci.specs.Calls.{largest}
+use Rattle.calls.specs.Limits.{largest}
 use Rattle.digit_values.proofs.Bytes.{entry-at}
 use Rattle.digit_values.proofs.entry.Statement.{statement}
 use Rattle.digit_values.proofs.entry.Tie as tie

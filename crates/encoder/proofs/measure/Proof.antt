@@ -4,7 +4,7 @@ use native.Mathlib.Omega.{arith}
 use lib.ListN.{length}
 use borrow.Author.Needs.{needs}
 use borrow.Author.Tests.{not-true, not-false}
-use Rattle.fibonacci.proofs.Checks.{number-is}
+use Rattle.calls.proofs.Checks.{number-is}
 use Rattle.codeword_writer.proofs.Rows.{Counted, counted-none, counted-more, counted-fault, counted-end}
 use Rattle.encoder.proofs.measure.Statement.{statement}
 use Rattle.encoder.proofs.measure.Tie as tie
@@ -16,18 +16,18 @@ abbrev μ-loop : tie.MeasureT-loop
 μ-loop firsts order row limit bits₀ i₀ i-end bits i = i-end - i
 
 -- one number more
-next : (c : tie.After-stem Inv-loop μ-loop)
+next : (c : tie.After-bit-length Inv-loop μ-loop)
     → let a = c .before .before .before .before .before .before .before .before .args in
     let l = c .before .before .before .before .before .before .loop in
-    Counted (a .order) (a .limit) (a .row .now) (l .i + 1) (l .bits + (c .stem .result + a .order))
+    Counted (a .order) (a .limit) (a .row .now) (l .i + 1) (l .bits + c .bit-length .result)
 next c =
     let start = c .before .before .before .before .before .before .before .before in
     let a = start .args in
     let l = c .before .before .before .before .before .before .loop in
     let n = c .before .before .before .wide in
     let legal = sym (c .before .before .is-number .ensures) ∙ not-false _ (c .before .if1 .left) in
-    counted-more (a .order) (a .limit) (a .row .now) (l .i) (l .bits) (l .inv .2) (n .result) (c .stem .result) (omega arith) (n .ensures) legal
-    (start .pre .3) (start .pre .0) (c .stem .ensures)
+    counted-more (a .order) (a .limit) (a .row .now) (l .i) (l .bits) (l .inv .2) (n .result) (c .bit-length .result) (omega arith) (n .ensures) legal
+    (c .bit-length .ensures .0) (c .bit-length .ensures .1)
 
 loop-holds : tie.Need-loop-holds Inv-loop μ-loop
 loop-holds c =
@@ -54,17 +54,14 @@ returns c =
     let fault = sym (c .before .is-number .ensures) ∙ not-true _ (c .if1 .taken) in
     counted-fault (a .order) (a .limit) (a .row .now) (l .i) (l .bits) (l .inv .2) (n .result) (omega arith) (n .ensures) fault
 
-stem-requires : tie.Need-stem-requires Inv-loop μ-loop
-stem-requires c κs =
+bit-length-requires : tie.Need-bit-length-requires Inv-loop μ-loop
+bit-length-requires c κs =
     let p = c .before .before .before .before .before .before .before .pre in
     let n = number-is _ _ (sym (c .before .is-number .ensures) ∙ not-false _ (c .if1 .left)) in
-    (p .0, p .1, n .0, omega arith)
+    (p .0, n .0, omega arith)
 
 add-bits : tie.Need-add-bits Inv-loop μ-loop
 add-bits c = omega (arith, next c .0)
-
-add-bits-2 : tie.Need-add-bits-2 Inv-loop μ-loop
-add-bits-2 c = omega (arith, next c .0)
 
 add-i : tie.Need-add-i Inv-loop μ-loop
 add-i c = search needs
@@ -93,9 +90,8 @@ measure-spec =
     wide-requires
     is-number-requires
     returns
-    stem-requires
+    bit-length-requires
     add-bits
-    add-bits-2
     add-i
     loop-less
     loop-again

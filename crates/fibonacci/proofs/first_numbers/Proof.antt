@@ -17,7 +17,7 @@ array-copy-out-result c = search needs
 
 returns : tie.Need-returns
 unfolding tableOf tableRow bounded first F past
-returns c = row-at first (c .before .args .order) _ (c .before .pre)
+returns c = (c .before .pre, row-at first (c .before .args .order) _ (c .before .pre))
 
 pub first-numbers-spec : {M : Type 1} → statement M
 first-numbers-spec = tie.close (tie.spec sub-i mul-result array-copy-out-result returns)

@@ -9,10 +9,10 @@ use Rattle.fibonacci.proofs.position.Statement.{statement}
 use Rattle.fibonacci.proofs.position.Tie as tie
 
 element-copy-out-wide : tie.Need-element-copy-out-wide
-element-copy-out-wide c = omega (arith, position-within (c .args .order) (c .pre .0) (c .args .j) (c .pre .2))
+element-copy-out-wide c = omega (arith, position-within (c .args .order) (c .pre .0 .0) (c .args .j) (c .pre .1))
 
 mul-wide : tie.Need-mul-wide
-mul-wide c = omega (arith, position-within (c .args .order) (c .pre .0) (c .args .j) (c .pre .2))
+mul-wide c = omega (arith, position-within (c .args .order) (c .pre .0 .0) (c .args .j) (c .pre .1))
 
 wide-requires : tie.Need-wide-requires
 wide-requires c κs = search needs
@@ -21,7 +21,7 @@ returns : tie.Need-returns
 returns c =
     let a = c .before .before .args in
     let p = c .before .before .pre in
-    c .wide .ensures ∙ ap (λ (l : List ℕ). getD l (a .j) 0) (p .1) ∙ position-at (a .order) (p .0) (a .j) 0 (p .2)
+    c .wide .ensures ∙ ap (λ (l : List ℕ). getD l (a .j) 0) (p .0 .1) ∙ position-at (a .order) (p .0 .0) (a .j) 0 (p .1)
 
 pub position-spec : {M : Type 1} → statement M
 position-spec = tie.close (tie.spec mul-wide element-copy-out-wide wide-requires returns)

@@ -17,7 +17,7 @@ array-copy-out-result c = search needs
 
 returns : tie.Need-returns
 unfolding tableOf tableRow bounded F past
-returns c = row-at F (c .before .args .order) _ (c .before .pre)
+returns c = (c .before .pre, row-at F (c .before .args .order) _ (c .before .pre))
 
 pub positions-spec : {M : Type 1} → statement M
 positions-spec = tie.close (tie.spec sub-i mul-result array-copy-out-result returns)

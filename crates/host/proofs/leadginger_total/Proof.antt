@@ -1,7 +1,7 @@
 use mathlib.Core.Path.{sym, ap, _∙_, subst}
 use Prim.Native.Nat.{_*_, _≤_}
 use native.Mathlib.Omega.{arith}
-use Rattle.fibonacci.specs.Calls.{longest, largest}
+use Rattle.calls.specs.Limits.{longest, largest}
 use Rattle.totals.specs.Totals.{totalOutcome}
 use Rattle.host.specs.Host.{hostNumber}
 use Rattle.host.proofs.Fitting.{Fits, total-fits}
@@ -27,22 +27,14 @@ mul-result c =
 enum-known-answer-2 : tie.Need-enum-known-answer-2
 enum-known-answer-2 c = search needs
 
-unread-requires : tie.Need-unread-requires
-unread-requires c κs = subst (λ r. Fits (λ x. x ≤ largest * longest) (totalOutcome r)) (c .before .answer2 .given .1) (fits (c .before .before .before))
-
-enum-told : tie.Need-enum-told
-enum-told c = search needs
+number-of-requires : tie.Need-number-of-requires
+number-of-requires c κs = subst (λ r. Fits (λ x. x ≤ largest * longest) (totalOutcome r)) (c .before .answer2 .given .1) (fits (c .before .before .before))
 
 returns : tie.Need-returns
 returns c = ap hostNumber (ap totalOutcome (sym (c .before .answer .given .1)) ∙ c .before .before .before .total .ensures)
 
 returns-2 : tie.Need-returns-2
-returns-2 c =
-    let o = c .before .before in
-    c .unread .ensures ∙ ap hostNumber (ap totalOutcome (sym (o .answer2 .given .1)) ∙ o .before .before .total .ensures)
-
-returns-3 : tie.Need-returns-3
-returns-3 c = ap hostNumber (ap totalOutcome (sym (c .enum-told .given .1)) ∙ c .before .before .total .ensures)
+returns-2 c = c .number-of .ensures ∙ ap hostNumber (ap totalOutcome (sym (c .before .before .answer2 .given .1)) ∙ c .before .before .before .before .total .ensures)
 
 pub leadginger-total-spec : {M : Type 1} → statement M
 leadginger-total-spec =
@@ -52,8 +44,6 @@ leadginger-total-spec =
     enum-known-answer
     mul-result
     enum-known-answer-2
-    unread-requires
-    enum-told
+    number-of-requires
     returns
-    returns-2
-    returns-3)
+    returns-2)

@@ -1,7 +1,6 @@
 use mathlib.Core.Path.{_∙_, subst}
 use native.Mathlib.Omega.{arith}
-use Rattle.listing_text.specs.Listing.{text}
-use Rattle.listing_text.specs.Answers.{Puts}
+use Rattle.listing_text.specs.Listing.{text, Puts}
 use Rattle.listing_text.proofs.Printing.{puts-text, puts-room}
 use Rattle.listing_text.proofs.Answering.{text-fits}
 use borrow.Author.Needs.{needs}
@@ -28,7 +27,7 @@ returns-2 : tie.Need-returns-2
 returns-2 c =
     let s = c .before .before .before .before .before .args .input .now in
     let listing = c .before .before .listing in
-    let short = puts-room (text s) (c .before .before .before .before .before .args .out .now) _ (subst (λ r. Puts (text s) (c .before .before .before .before .before .args .out .now) r (listing .last .1 .0)) (c .enum-told .given .1) (listing .ensures)) in
+    let short = puts-room (text s) (c .before .before .before .before .before .args .out .now) _ _ (subst (λ r. Puts (text s) (c .before .before .before .before .before .args .out .now) r (listing .last .1 .0)) (c .enum-told .given .1) (listing .ensures)) in
     absurd (omega (arith, short, text-fits s, c .before .before .before .before .before .pre))
 
 pub print-spec : {M : Type 1} → statement M

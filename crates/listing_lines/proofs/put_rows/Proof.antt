@@ -1,13 +1,11 @@
-use mathlib.Core.Path.{_≡_, refl, sym}
+use mathlib.Core.Path.{_≡_, refl}
 use Prim.Native.Nat.{_+_, _-_, _≤_}
 use native.Mathlib.Omega.{arith}
 use lib.ListN.{length}
 use lib.Seq.{length-sets}
 use borrow.Author.Needs.{needs}
-use Rattle.fibonacci.specs.Code.{codeword}
-use Rattle.fibonacci.specs.Calls.{largest}
-use Rattle.fibonacci.proofs.Checks.{number-is, legal-at}
-use Rattle.codewords.proofs.Codewords.{stem-long}
+use Rattle.calls.proofs.Checks.{number-is, legal-at}
+use Rattle.calls.specs.Limits.{largest}
 use Rattle.listing_lines.proofs.Lines.{Listed, listed-none, listed-more, listed-end}
 use Rattle.listing_lines.proofs.put_rows.Statement.{statement}
 use Rattle.listing_lines.proofs.put_rows.Tie as tie
@@ -24,15 +22,6 @@ number : (c : tie.After-wide Inv-loop μ-loop) → (1 ≤ c .wide .result) × (c
 number c =
     let start = c .before .before .before .before .before .before .before in
     number-is largest (c .wide .result) (rw (c .wide .ensures) (legal-at largest (start .args .row .now) (c .before .before .before .loop .i) (start .pre .2) (omega arith)))
-
--- its codeword has as many bits as are found
-bits : (c : tie.After-stem Inv-loop μ-loop)
-    → let n = c .before .before .wide .result in
-    let order = c .before .before .before .before .before .before .before .before .before .args .order in
-    (length (codeword order n) ≡ c .stem .result + order) × (c .stem .result + order ≤ 47)
-bits c =
-    let n = number (c .before .before) in
-    stem-long _ _ _ (c .before .before .before .before .before .before .before .before .before .pre .0) (n .0) (n .1) (c .stem .ensures)
 
 first-numbers-requires : tie.Need-first-numbers-requires Inv-loop μ-loop
 first-numbers-requires c κs = c .before .before .pre .0
@@ -51,13 +40,10 @@ shared-slice-read-wide c = search needs
 wide-requires : tie.Need-wide-requires Inv-loop μ-loop
 wide-requires c κs = search needs
 
-stem-requires : tie.Need-stem-requires Inv-loop μ-loop
-stem-requires c κs =
+bit-length-requires : tie.Need-bit-length-requires Inv-loop μ-loop
+bit-length-requires c κs =
     let n = number (c .before) in
-    (c .before .before .before .before .before .before .before .before .pre .0, c .before .before .before .before .before .first-numbers .ensures, n .0, n .1)
-
-add-bits : tie.Need-add-bits Inv-loop μ-loop
-add-bits c = omega (arith, bits c .1)
+    (c .before .before .before .before .before .first-numbers .ensures, n .0, n .1)
 
 add-total : tie.Need-add-total Inv-loop μ-loop
 add-total c =
@@ -91,7 +77,7 @@ loop-again c =
       refl,
       rw (put .ensures) (simp length-sets (l .inv .2)),
       listed-more (a .order) (a .row .now) (l .i) (l .total) (l .out) (a .out .now) (l .inv .3) (n .result) _ _ (omega arith) (n .ensures)
-          (number (c .before .before .before .before .before .before) .1) (sym (bits (c .before .before .before .before) .0)) (put .ensures),
+          (number (c .before .before .before .before .before .before) .1) (c .before .before .before .before .bit-length .ensures .0) (put .ensures),
     )
 
 same-length : tie.Need-same-length Inv-loop μ-loop
@@ -114,8 +100,7 @@ put-rows-spec =
     mul-wide
     shared-slice-read-wide
     wide-requires
-    stem-requires
-    add-bits
+    bit-length-requires
     add-total
     mul-put-line
     add-put-line

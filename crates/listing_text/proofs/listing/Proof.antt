@@ -3,7 +3,7 @@ use Prim.Native.Nat.{_-_, _/_, _≤_}
 use native.Mathlib.Omega.{arith}
 use lib.ListN.{length, getD, take, drop}
 use borrow.Author.Tests.{not-true, not-false}
-use Rattle.fibonacci.specs.Calls.{largest}
+use Rattle.calls.specs.Limits.{largest}
 use Rattle.listing_text.specs.Listing.{listingOf, printed, text}
 use Rattle.listing_text.proofs.Printing.{puts-same}
 use Rattle.listing_text.proofs.Answering.{text-long, text-other, text-row}

@@ -1,10 +1,12 @@
-use mathlib.Core.Path.{refl}
+use mathlib.Core.Path.{refl, ap}
 use mathlib.Core.List.{_++_}
 use lib.ListN.{length-append}
+use Rattle.calls.specs.declared.CountAnswer.the-variants.{Count}
+use Rattle.calls.specs.Refusals.{reason}
 use Rattle.columns.specs.Columns.{ascii, column}
 use Rattle.columns.proofs.Columns.{column-length, sets-then}
 use Rattle.listing_text.specs.Listing.{refusalLine}
-use Rattle.listing_text.proofs.Printing.{refusal-length, put-room, put-done}
+use Rattle.listing_text.proofs.Printing.{refusal-length, put-room, put-done, puts-same}
 use borrow.Author.Needs.{needs}
 use Rattle.listing_text.proofs.refuse.Statement.{statement}
 use Rattle.listing_text.proofs.refuse.Tie as tie
@@ -12,7 +14,10 @@ use Rattle.listing_text.proofs.refuse.Tie as tie
 returns : tie.Need-returns
 returns c =
     let a = c .before .before .args in
-    put-room (refusalLine (a .number)) (a .out .now) 8 (refusal-length (a .number)) (c .if1 .taken)
+    put-room (refusalLine (reason (a .r) .0)) (a .out .now) 8 (refusal-length (reason (a .r) .0)) (c .if1 .taken)
+
+reason-requires : tie.Need-reason-requires
+reason-requires c κs = search needs
 
 slice-aggregate-put-text : tie.Need-slice-aggregate-put-text
 slice-aggregate-put-text c = search needs
@@ -35,17 +40,20 @@ same-length c = search needs
 returns-2 : tie.Need-returns-2
 unfolding refusalLine
 returns-2 c =
-    let a = c .before .before .before .before .before .before .before .before .before .before .before .before .before .before .before .before .args in
-    let number = column 5 (a .number) in
+    let a = c .before .before .before .before .before .before .before .before .before .before .before .before .before .before .before .before .before .args in
+    let told = c .before .before .before .before .before .before .before .before .before .before .before .before .before .before .reason in
+    let number = column 5 (told .result .number) in
     let two = sets-then (a .out .now) 0 2 (ascii "NO") number (c .before .before .before .before .before .before .before .before .before .before .before .put-text .ensures) (c .before .before .before .before .before .before .before .put .ensures) refl in
     let three = sets-then (a .out .now) 0 7 (ascii "NO" ++ number) (ascii "\n") two (c .before .before .put-text2 .ensures) (simp (length-append, column-length)) in
-    put-done (refusalLine (a .number)) (a .out .now) 8 (refusal-length (a .number)) _ (c .before .before .before .before .before .before .before .before .before .before .before .before .before .before .if1 .left) three
+    puts-same _ _ (a .out .now) (Count 8) _ (ap refusalLine (told .ensures .0))
+    (put-done (refusalLine (told .result .number)) (a .out .now) 8 (refusal-length (told .result .number)) _ (c .before .before .before .before .before .before .before .before .before .before .before .before .before .before .before .if1 .left) three)
 
 pub refuse-spec : {M : Type 1} → statement M
 refuse-spec =
     tie.close
     (tie.spec
     returns
+    reason-requires
     slice-aggregate-put-text
     put-text-requires
     put-requires

@@ -24,7 +24,7 @@ returns c =
     let o = t .before in
     let w = o .before .before .before in
     let a = w .before .before .before .before .before .args in
-    (tells-pair (a .answer .now) _ (o .of-append .result) (t .tell .ensures) (o .of-append .ensures) (w .append .ensures .0), w .append .ensures .2)
+    (tells-pair (a .answer .now) _ (o .of-append .result) (t .tell .ensures) (o .of-append .ensures) (w .append .ensures .0), w .append .ensures .1)
 
 pub probe-append-spec : {M : Type 1} → statement M
 probe-append-spec =

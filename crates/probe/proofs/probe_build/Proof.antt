@@ -6,8 +6,8 @@ use Rattle.probe.proofs.probe_build.Tie as tie
 build-requires : tie.Need-build-requires
 build-requires c κs = search needs
 
-of-build-requires : tie.Need-of-build-requires
-of-build-requires c κs = search needs
+of-count-requires : tie.Need-of-count-requires
+of-count-requires c κs = search needs
 
 tell-requires : tie.Need-tell-requires
 tell-requires c κs = search needs
@@ -24,9 +24,9 @@ returns c =
     let o = t .before in
     let w = o .before .before .before in
     let a = w .before .before .before .before .before .before .args in
-    (tells-single (a .answer .now) _ (o .of-build .result) (t .tell .ensures) (o .of-build .ensures) (w .build .ensures .0), w .build .ensures .1)
+    (tells-single (a .answer .now) _ (o .of-count .result) (t .tell .ensures) (o .of-count .ensures) (w .build .ensures .0), w .build .ensures .1)
 
 pub probe-build-spec : {M : Type 1} → statement M
 probe-build-spec =
     tie.close
-    (tie.spec build-requires of-build-requires tell-requires same-length same-length-2 returns)
+    (tie.spec build-requires of-count-requires tell-requires same-length same-length-2 returns)

@@ -6,8 +6,8 @@ use Rattle.probe.proofs.probe_extract.Tie as tie
 extract-requires : tie.Need-extract-requires
 extract-requires c κs = search needs
 
-of-extract-requires : tie.Need-of-extract-requires
-of-extract-requires c κs = search needs
+of-question-requires : tie.Need-of-question-requires
+of-question-requires c κs = search needs
 
 tell-requires : tie.Need-tell-requires
 tell-requires c κs = search needs
@@ -21,8 +21,8 @@ returns c =
     let o = t .before in
     let w = o .before in
     let a = w .before .before .before .before .args in
-    tells-pair (a .answer .now) _ (o .of-extract .result) (t .tell .ensures) (o .of-extract .ensures) (w .extract .ensures)
+    tells-pair (a .answer .now) _ (o .of-question .result) (t .tell .ensures) (o .of-question .ensures) (w .extract .ensures)
 
 pub probe-extract-spec : {M : Type 1} → statement M
 probe-extract-spec =
-    tie.close (tie.spec extract-requires of-extract-requires tell-requires same-length returns)
+    tie.close (tie.spec extract-requires of-question-requires tell-requires same-length returns)

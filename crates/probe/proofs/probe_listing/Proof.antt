@@ -6,8 +6,8 @@ use Rattle.probe.proofs.probe_listing.Tie as tie
 listing-requires : tie.Need-listing-requires
 listing-requires c κs = search needs
 
-of-listing-requires : tie.Need-of-listing-requires
-of-listing-requires c κs = search needs
+of-count-requires : tie.Need-of-count-requires
+of-count-requires c κs = search needs
 
 tell-requires : tie.Need-tell-requires
 tell-requires c κs = search needs
@@ -24,9 +24,9 @@ returns c =
     let o = t .before in
     let w = o .before .before .before in
     let a = w .before .before .before .before .before .before .args in
-    (tells-single (a .answer .now) _ (o .of-listing .result) (t .tell .ensures) (o .of-listing .ensures) (w .listing .ensures .0), w .listing .ensures .1)
+    (tells-single (a .answer .now) _ (o .of-count .result) (t .tell .ensures) (o .of-count .ensures) (w .listing .ensures .0), w .listing .ensures .1)
 
 pub probe-listing-spec : {M : Type 1} → statement M
 probe-listing-spec =
     tie.close
-    (tie.spec listing-requires of-listing-requires tell-requires same-length same-length-2 returns)
+    (tie.spec listing-requires of-count-requires tell-requires same-length same-length-2 returns)

@@ -6,8 +6,8 @@ use Rattle.probe.proofs.probe_rank.Tie as tie
 rank-requires : tie.Need-rank-requires
 rank-requires c κs = search needs
 
-of-rank-requires : tie.Need-of-rank-requires
-of-rank-requires c κs = search needs
+of-question-requires : tie.Need-of-question-requires
+of-question-requires c κs = search needs
 
 tell-requires : tie.Need-tell-requires
 tell-requires c κs = search needs
@@ -21,8 +21,8 @@ returns c =
     let o = t .before in
     let w = o .before in
     let a = w .before .before .before .before .args in
-    tells-pair (a .answer .now) _ (o .of-rank .result) (t .tell .ensures) (o .of-rank .ensures) (w .rank .ensures)
+    tells-pair (a .answer .now) _ (o .of-question .result) (t .tell .ensures) (o .of-question .ensures) (w .rank .ensures)
 
 pub probe-rank-spec : {M : Type 1} → statement M
 probe-rank-spec =
-    tie.close (tie.spec rank-requires of-rank-requires tell-requires same-length returns)
+    tie.close (tie.spec rank-requires of-question-requires tell-requires same-length returns)

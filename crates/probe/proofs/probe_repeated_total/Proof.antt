@@ -6,8 +6,8 @@ use Rattle.probe.proofs.probe_repeated_total.Tie as tie
 repeated-total-requires : tie.Need-repeated-total-requires
 repeated-total-requires c κs = search needs
 
-of-repeated-total-requires : tie.Need-of-repeated-total-requires
-of-repeated-total-requires c κs = search needs
+of-total-requires : tie.Need-of-total-requires
+of-total-requires c κs = search needs
 
 tell-requires : tie.Need-tell-requires
 tell-requires c κs = search needs
@@ -21,9 +21,9 @@ returns c =
     let o = t .before in
     let w = o .before in
     let a = w .before .before .before .before .args in
-    tells-single (a .answer .now) _ (o .of-repeated-total .result) (t .tell .ensures) (o .of-repeated-total .ensures) (w .repeated-total .ensures)
+    tells-single (a .answer .now) _ (o .of-total .result) (t .tell .ensures) (o .of-total .ensures) (w .repeated-total .ensures)
 
 pub probe-repeated-total-spec : {M : Type 1} → statement M
 probe-repeated-total-spec =
     tie.close
-    (tie.spec repeated-total-requires of-repeated-total-requires tell-requires same-length returns)
+    (tie.spec repeated-total-requires of-total-requires tell-requires same-length returns)

@@ -6,8 +6,8 @@ use Rattle.probe.proofs.probe_select.Tie as tie
 select-requires : tie.Need-select-requires
 select-requires c κs = search needs
 
-of-select-requires : tie.Need-of-select-requires
-of-select-requires c κs = search needs
+of-question-requires : tie.Need-of-question-requires
+of-question-requires c κs = search needs
 
 tell-requires : tie.Need-tell-requires
 tell-requires c κs = search needs
@@ -21,8 +21,8 @@ returns c =
     let o = t .before in
     let w = o .before in
     let a = w .before .before .before .before .args in
-    tells-pair (a .answer .now) _ (o .of-select .result) (t .tell .ensures) (o .of-select .ensures) (w .select .ensures)
+    tells-pair (a .answer .now) _ (o .of-question .result) (t .tell .ensures) (o .of-question .ensures) (w .select .ensures)
 
 pub probe-select-spec : {M : Type 1} → statement M
 probe-select-spec =
-    tie.close (tie.spec select-requires of-select-requires tell-requires same-length returns)
+    tie.close (tie.spec select-requires of-question-requires tell-requires same-length returns)

@@ -1,29 +1,9 @@
-use mathlib.Core.Path.{_≡_, ap, _∙_}
-use mathlib.Core.List.{List, _++_}
-use Prim.Native.Nat.{ℕ, _*_, _≤_}
+use mathlib.Core.Path.{_∙_}
 use native.Mathlib.Omega.{arith}
-use lib.ListN.{length, take, drop}
-use Rattle.fibonacci.specs.Calls.{accepted}
-use Rattle.reading.specs.Reading.{decode}
-use Rattle.reading.specs.Answers.{refusal}
-use Rattle.reading.proofs.Decoding.{decode-is}
-use Rattle.table_decoder.specs.Reading.{rowBytes}
-use Rattle.table_decoder.proofs.Answering.{row-found, row-refused, bytes-row, bytes-room, bytes-refused}
+use Rattle.table_decoder.proofs.Answering.{row-fits, bytes-room, bytes-row, bytes-refused}
 use borrow.Author.Needs.{needs}
 use Rattle.table_decoder.proofs.read_bytes.Statement.{statement}
 use Rattle.table_decoder.proofs.read_bytes.Tie as tie
-
--- the row that the scan found, with which the list that was lent to it begins
-row-of : (c : tie.After-scanned)
-    → let a = c .before .before .before .before .before .before .args in
-    (row : List ℕ) × (decode 3 (a .s .now) ≡ accepted row) × (c .scanned .given .0 .0 ≡ length row) × (take (length row) (c .before .before .scan-into .last .1 .0) ≡ row)
-row-of c =
-    let e = c .before .before .scan-into .ensures in
-    row-found _ _ _ (c .scanned .given .1) (e .0) (e .1)
-
--- why the scan refused
-reason-of : (c : tie.After-scanned2) → decode 3 (c .before .before .before .before .before .before .args .s .now) ≡ refusal (c .scanned2 .given .0 .0)
-reason-of c = row-refused _ (c .scanned2 .given .0 .0) (c .scanned2 .given .1) (c .before .before .scan-into .ensures .0)
 
 scan-into-requires : tie.Need-scan-into-requires
 scan-into-requires c κs = search needs
@@ -33,44 +13,39 @@ enum-known-scanned c = search needs
 
 mul-if1 : tie.Need-mul-if1
 mul-if1 c =
-    let r = row-of (c .before) in
-    omega (arith, r .2, decode-is 3 _ (r .0) (r .1) .long)
+    let k = c .before in
+    omega (arith, row-fits _ _ _ (k .before .before .scan-into .ensures) _ (k .scanned .given .1))
 
 returns : tie.Need-returns
 returns c =
-    let r = row-of (c .before .before) in
-    bytes-room _ _ (r .0) (r .1) (omega (arith, r .2))
+    let k = c .before .before in
+    bytes-room _ _ _ (k .before .before .scan-into .ensures) _ (k .scanned .given .1) _ (c .if1 .taken)
 
 slice-aggregate-put-row : tie.Need-slice-aggregate-put-row
 slice-aggregate-put-row c = search needs
 
 put-row-requires : tie.Need-put-row-requires
 put-row-requires c κs =
-    let m = c .before .before .before .before in
-    let r = row-of m in
-    let few : length (r .0) ≤ 4096 = decode-is 3 _ (r .0) (r .1) .long in
-    (omega (arith, r .2, m .before .before .scan-into .ensures .2), omega (arith, r .2))
+    let e = c .before .before in
+    let k = e .before .before in
+    (omega (arith, row-fits _ _ _ (k .before .before .scan-into .ensures) _ (k .scanned .given .1), k .before .before .scan-into .ensures .2), e .if1 .left)
 
-enum-known-scanned-2 : tie.Need-enum-known-scanned-2
-enum-known-scanned-2 c = search needs
+enum-told : tie.Need-enum-told
+enum-told c = search needs
 
 same-length : tie.Need-same-length
 same-length c = search needs
 
 returns-2 : tie.Need-returns-2
 returns-2 c =
-    let m = c .before .before .before .before .before .before .before in
-    let r = row-of m in
-    let out : List ℕ = m .before .before .before .before .before .before .args .out .now in
-    let fits : 4 * length (r .0) ≤ length out = omega (arith, r .2) in
-    let read = bytes-row _ out (r .0) (r .1) fits in
-    let same : c .before .before .put-row .last .0 ≡ rowBytes (r .0) ++ drop (4 * length (r .0)) out =
-    c .before .before .put-row .ensures ∙ ap (λ (k : ℕ). rowBytes (take k (m .before .before .scan-into .last .1 .0)) ++ drop (4 * k) out) (r .2)
-    ∙ ap (λ (l : List ℕ). rowBytes l ++ drop (4 * length (r .0)) out) (r .3) in
-    (ap accepted (r .2) ∙ read .0, same ∙ read .1)
+    let p = c .before .before in
+    let e = p .before .before .before in
+    let k = e .before .before in
+    let r = bytes-row _ _ _ (k .before .before .scan-into .ensures) _ (k .scanned .given .1) _ (e .if1 .left) in
+    (r .0, p .put-row .ensures ∙ r .1)
 
 returns-3 : tie.Need-returns-3
-returns-3 c = bytes-refused _ _ _ _ (reason-of (c .before))
+returns-3 c = bytes-refused _ _ _ (c .before .before .scan-into .ensures) _ _ (c .enum-told .given .1)
 
 pub read-bytes-spec : {M : Type 1} → statement M
 read-bytes-spec =
@@ -82,7 +57,7 @@ read-bytes-spec =
     returns
     slice-aggregate-put-row
     put-row-requires
-    enum-known-scanned-2
+    enum-told
     same-length
     returns-2
     returns-3)

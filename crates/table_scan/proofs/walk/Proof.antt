@@ -1,37 +1,39 @@
 use mathlib.Core.Path.{_≡_, refl, sym, ap, _∙_}
-use mathlib.Core.Bool.{true}
 use mathlib.Core.Logic.{⊎-elim}
 use Prim.Native.Nat.{ℕ, _-_, _≤_, _<_}
 use native.Mathlib.Omega.{arith}
 use lib.ListN.{length, getD, take}
-use lib.Seq.{length-sets}
 use borrow.Author.Needs.{needs}
 use borrow.Author.Tests.{not-true, not-false}
-use Rattle.fibonacci.specs.Calls.{accepted, isNumber, largest}
-use Rattle.fibonacci.proofs.Checks.{number-is}
-use Rattle.byte_table.specs.Table.{moved}
-use Rattle.table_scan.proofs.Walking.{Walked, walked-start, walked-state, walked-open, walked-many, walked-large, walked-past, walked-shut, walked-padding, walked-rest}
+use Rattle.calls.specs.Calls.{accepted, refused}
+use Rattle.table_scan.proofs.Walking.{Walked, Step, walked-start, walked-state, walked-open, walked-fault, walked-number, walked-past, walked-shut, walked-padding, walked-rest}
 use Rattle.table_scan.proofs.walk.Statement.{statement}
 use Rattle.table_scan.proofs.walk.Tie as tie
 
 abbrev Inv-loop : tie.InvT-loop
-Inv-loop heads tails positions firsts s row₀ count₀ len₀ val₀ state₀ i₀ i-end row count len val state i =
-    (i ≤ i-end) × (i-end ≡ length s) × Walked s i row count len val state
+Inv-loop heads tails positions firsts s limit row₀ count₀ len₀ val₀ state₀ i₀ i-end row count len val state i =
+    (i ≤ i-end) × (i-end ≡ length s) × Walked limit s i row count len val state
 
 abbrev μ-loop : tie.MeasureT-loop
-μ-loop heads tails positions firsts s row₀ count₀ len₀ val₀ state₀ i₀ i-end row count len val state i = i-end - i
+μ-loop heads tails positions firsts s limit row₀ count₀ len₀ val₀ state₀ i₀ i-end row count len val state i = i-end - i
 
 -- the byte is one
 byte : (c : tie.After-shared-slice-known2 Inv-loop μ-loop)
     → getD (c .before .before .before .before .args .s .now) (c .before .before .loop .i) 0 < 256
 byte c = omega (arith, c .shared-slice-known2 .given (c .before .before .loop .i))
 
--- the number has passed its check
-passed : (c : tie.Else3 Inv-loop μ-loop) → isNumber largest (c .before .before .number .result) ≡ true
-passed c = sym (c .before .is-number .ensures) ∙ not-false _ (c .if3 .left)
+step : (c : tie.After-moved Inv-loop μ-loop) → Step (c .before .before .before .before .before .loop .inv .2) (c .before .before .look-up .result) (c .moved .result)
+step c =
+    record {
+      more = c .before .before .before .before .loop-test .taken;
+      byte = byte (c .before .before .before);
+      row-is = c .before .before .look-up .ensures .0;
+      few = c .before .before .look-up .ensures .1;
+      worth = c .moved .ensures .0;
+    }
 
 loop-holds : tie.Need-loop-holds Inv-loop μ-loop
-loop-holds c = (omega arith, refl, walked-start _ _ (c .before .pre .2))
+loop-holds c = (omega arith, refl, walked-start _ _ _ (c .before .pre .3))
 
 shared-slice-read-look-up : tie.Need-shared-slice-read-look-up Inv-loop μ-loop
 shared-slice-read-look-up c = search needs
@@ -63,51 +65,49 @@ add-sum c =
 held-requires : tie.Need-held-requires Inv-loop μ-loop
 held-requires c κs = search needs
 
-returns : tie.Need-returns Inv-loop μ-loop
-returns c =
-    let m = c .before .before .before in
-    let l = m .before .before .before .before .before .loop in
-    rw (walked-many (l .inv .2) (m .before .before .before .before .loop-test .taken) (byte (m .before .before .before)) _ (m .before .before .look-up .ensures .0) (m .before .before .look-up .ensures .1) _ (m .moved .ensures .0) (c .before .if1 .left) (c .if2 .taken)) (refl, tt, l .inv .2 .room)
-
 number-requires : tie.Need-number-requires Inv-loop μ-loop
 number-requires c κs =
-    let m = c .before .before .before in
+    let m = c .before .before in
     let l = m .before .before .before .before .before .loop in
     let z = m .before .before .before .before .before .before .before in
-    ((omega arith, omega arith), z .pre .0 .firsts-are, omega (arith, l .inv .2 .small, m .moved .ensures .1, z .pre .1))
+    (z .pre .0 .firsts-are, omega (arith, l .inv .2 .small, m .moved .ensures .1, z .pre .1))
 
-is-number-requires : tie.Need-is-number-requires Inv-loop μ-loop
-is-number-requires c κs = search needs
+passing-requires : tie.Need-passing-requires Inv-loop μ-loop
+passing-requires c κs = search needs
+
+add-fault : tie.Need-add-fault Inv-loop μ-loop
+add-fault c = omega (arith, c .before .before .before .before .before .before .before .before .before .before .loop .inv .2 .most)
+
+fault-requires : tie.Need-fault-requires Inv-loop μ-loop
+fault-requires c κs = search needs
+
+returns : tie.Need-returns Inv-loop μ-loop
+returns c =
+    let a = c .before .before in
+    let m = a .before .before .before .before in
+    let k = m .before .before .before .before .before .loop .inv .2 in
+    rw (walked-fault k (step m) (a .before .before .if1 .left) _ (a .before .number .ensures) (m .before .before .before .before .before .before .before .pre .2) _ (a .passing .ensures) (c .before .if2 .taken)) (ap refused (c .fault .ensures), tt, k .room)
+
+add-if3 : tie.Need-add-if3 Inv-loop μ-loop
+add-if3 c = omega (arith, c .before .before .before .before .before .before .before .before .before .before .before .loop .inv .2 .most, c .before .before .before .before .before .before .before .before .look-up .ensures .1 .0)
 
 returns-2 : tie.Need-returns-2 Inv-loop μ-loop
 returns-2 c =
-    let n = c .before .before in
-    let e = n .before .before in
-    let m = e .before .before in
-    let l = m .before .before .before .before .before .loop in
-    rw (walked-large (l .inv .2) (m .before .before .before .before .loop-test .taken) (byte (m .before .before .before)) _ (m .before .before .look-up .ensures .0) (m .before .before .look-up .ensures .1) _ (m .moved .ensures .0) (e .if1 .left) (n .number .result) (n .number .ensures) (n .before .if2 .left) (sym (c .before .is-number .ensures) ∙ not-true _ (c .if3 .taken))) (refl, tt, l .inv .2 .room)
+    let a = c .before .before .before in
+    let m = a .before .before .before .before in
+    let k = m .before .before .before .before .before .loop .inv .2 in
+    rw (walked-past k (step m) (a .before .before .if1 .left) _ (a .before .number .ensures) (m .before .before .before .before .before .before .before .pre .2) _ (a .passing .ensures) (c .before .before .if2 .left) (c .if3 .taken)) (refl, tt, k .room)
 
 put-requires : tie.Need-put-requires Inv-loop μ-loop
 put-requires c κs =
-    let e = c .before .before .before in
-    let l = e .before .before .before .before .before .before .before .before .before .loop in
-    (omega (arith, l .inv .2 .most, e .before .if2 .left), l .inv .2 .room, number-is largest _ (passed (c .before)) .1)
+    let a = c .before .before .before .before in
+    let m = a .before .before .before .before in
+    let k = m .before .before .before .before .before .loop .inv .2 in
+    let n = walked-number k (step m) (a .before .before .if1 .left) _ (a .before .number .ensures) (m .before .before .before .before .before .before .before .pre .2) _ (a .passing .ensures) (c .before .before .before .if2 .left) in
+    (omega (arith, c .before .if3 .left, a .before .before .if1 .left), k .room, n)
 
 add-count : tie.Need-add-count Inv-loop μ-loop
-add-count c =
-    let m = c .before .before .before .before .before .before .before .before .before in
-    let l = m .before .before .before .before .before .loop in
-    omega (arith, l .inv .2 .most, m .before .before .look-up .ensures .1 .0)
-
-returns-3 : tie.Need-returns-3 Inv-loop μ-loop
-returns-3 c =
-    let u = c .before .before in
-    let e = u .before .before in
-    let n = e .before .before in
-    let m = n .before .before .before .before in
-    let l = m .before .before .before .before .before .loop in
-    rw (walked-past (l .inv .2) (m .before .before .before .before .loop-test .taken) (byte (m .before .before .before)) _ (m .before .before .look-up .ensures .0) (m .before .before .look-up .ensures .1) _ (m .moved .ensures .0) (n .before .before .if1 .left) (n .number .result) (n .number .ensures) (passed e) (omega arith))
-    (refl, tt, ap length (u .put .ensures) ∙ simp length-sets (l .inv .2 .room))
+add-count c = omega (arith, c .before .before .before .if3 .left)
 
 add-i : tie.Need-add-i Inv-loop μ-loop
 add-i c = search needs
@@ -124,32 +124,31 @@ loop-again c =
       omega arith,
       refl,
       rw (w .2, w .3, w .4, w .5)
-          (walked-open (l .inv .2) (m .before .before .before .before .loop-test .taken) (byte (m .before .before .before)) _ (m .before .before .look-up .ensures .0) (m .before .before .look-up .ensures .1) _ (m .moved .ensures .0) (w .0 .taken) (w .1 .result) (w .1 .ensures .0) (w .1 .ensures .1)
+          (walked-open (l .inv .2) (step m) (w .0 .taken) (w .1 .result) (w .1 .ensures .0) (w .1 .ensures .1)
           (m .moved .ensures .1)),
     ))
     (λ w. (
       omega arith,
       refl,
-      rw (w .9, w .10, w .11, w .12, w .6 .ensures)
-          (walked-shut (l .inv .2) (m .before .before .before .before .loop-test .taken) (byte (m .before .before .before)) _ (m .before .before .look-up .ensures .0) (m .before .before .look-up .ensures .1) _ (m .moved .ensures .0) (w .0 .left) (w .2 .result) (w .2 .ensures)
-          (sym (w .3 .ensures) ∙ not-false _ (w .4 .left)) (w .1 .left) (omega (arith, w .8 .left))),
+      rw (w .9, w .10, w .11, w .12, w .7 .ensures)
+          (walked-shut (l .inv .2) (step m) (w .0 .left) (w .1 .result) (w .1 .ensures) (m .before .before .before .before .before .before .before .pre .2) _ (w .2 .ensures) (w .3 .left) (w .5 .left)),
     ))
     (c .if1 .came)
 
 is-padding-requires : tie.Need-is-padding-requires Inv-loop μ-loop
 is-padding-requires c κs = search needs
 
+returns-3 : tie.Need-returns-3 Inv-loop μ-loop
+returns-3 c =
+    let o = c .before .before in
+    let l = o .before .loop in
+    rw (walked-rest (l .inv .2) (o .loop-test .left) (sym (c .before .is-padding .ensures) ∙ not-true _ (c .if4 .taken))) (refl, tt, l .inv .2 .room)
+
 returns-4 : tie.Need-returns-4 Inv-loop μ-loop
 returns-4 c =
     let o = c .before .before in
     let l = o .before .loop in
-    rw (walked-rest (l .inv .2) (o .loop-test .left) (sym (c .before .is-padding .ensures) ∙ not-true _ (c .if5 .taken))) (refl, tt, l .inv .2 .room)
-
-returns-5 : tie.Need-returns-5 Inv-loop μ-loop
-returns-5 c =
-    let o = c .before .before in
-    let l = o .before .loop in
-    let t = walked-padding (l .inv .2) (o .loop-test .left) (sym (c .before .is-padding .ensures) ∙ not-false _ (c .if5 .left)) in
+    let t = walked-padding (l .inv .2) (o .loop-test .left) (sym (c .before .is-padding .ensures) ∙ not-false _ (c .if4 .left)) in
     rw (t .0) (ap accepted (sym (t .2)), ap (λ (n : ℕ). take n (l .row)) (t .2) ∙ t .1, l .inv .2 .room)
 
 pub walk-spec : {M : Type 1} → statement M
@@ -167,16 +166,18 @@ walk-spec =
     moved-requires
     add-sum
     held-requires
-    returns
     number-requires
-    is-number-requires
+    passing-requires
+    add-fault
+    fault-requires
+    returns
+    add-if3
     returns-2
     put-requires
     add-count
-    returns-3
     add-i
     loop-less
     loop-again
     is-padding-requires
-    returns-4
-    returns-5)
+    returns-3
+    returns-4)

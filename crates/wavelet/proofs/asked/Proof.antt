@@ -3,7 +3,7 @@ use mathlib.Core.Bool.{true≢false}
 use native.Mathlib.Omega.{arith}
 use borrow.Author.Needs.{needs}
 use borrow.Author.Tests.{not-true, not-false}
-use Rattle.fibonacci.proofs.Checks.{number-is}
+use Rattle.calls.proofs.Checks.{number-is}
 use Rattle.wavelet.proofs.asked.Statement.{statement}
 use Rattle.wavelet.proofs.asked.Tie as tie
 
@@ -24,7 +24,7 @@ path-requires c κs =
     let y = c .before .before .before .before in
     let p = y .before .before .pre in
     let n = number-is _ _ (sym (y .before .is-number .ensures) ∙ not-false _ (y .if1 .left)) in
-    (p .0, p .1, c .before .before .before .first-numbers .ensures, n .0, omega (arith, n .1, p .2), c .before .before .low-digits .ensures)
+    ((p .0, c .before .before .before .first-numbers .ensures, c .before .before .low-digits .ensures), n .0, omega (arith, n .1, p .1))
 
 returns-2 : tie.Need-returns-2
 returns-2 c = search needs

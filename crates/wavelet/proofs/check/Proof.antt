@@ -2,7 +2,7 @@ use mathlib.Core.Path.{_≡_, sym, ap, _∙_}
 use mathlib.Core.Bool.{true}
 use borrow.Author.Needs.{needs}
 use borrow.Author.Tests.{not-true, not-false, lt-ltb, le-ltb}
-use Rattle.fibonacci.specs.Calls.{isOrder, isNumber}
+use Rattle.calls.specs.Limits.{isOrder, isNumber}
 use Rattle.wavelet.specs.Questions.{mostAlphabet}
 use Rattle.wavelet.proofs.check.Statement.{statement}
 use Rattle.wavelet.proofs.check.Tie as tie

@@ -9,7 +9,8 @@ use borrow.Author.Tests.{not-true, not-false}
 use borrow.Rule.Slice.PartMut.{same-len-mid}
 use borrow.Fn.Kinds.{In}
 use borrow.Fn.PlainCycle.{Measures, is, falls, and}
-use Rattle.wavelet.proofs.Walking.{nodeTest, is-node, less}
+use Rattle.wavelet.specs.Walk.{nodeTest}
+use Rattle.wavelet.proofs.Walking.{is-node, side-legal, less}
 use Rattle.wavelet_bitmaps.specs.Spreading.{room}
 use Rattle.wavelet_bitmaps.proofs.Stretches.{tail-part}
 use Rattle.wavelet_bitmaps.proofs.Spreading.{node-depth, room-split, room-sides, side-depth, spread-none, spread-leaf}
@@ -81,14 +82,14 @@ shallow : (t : ℕ) (c : Node t) → start-of t c .args .v .depth < 16
 shallow t c =
     let z = start-of t c in
     let p = z .pre .1 in
-    node-depth (z .args .order) (z .args .v .depth) (z .args .v .next) (p .0) (p .3) (omega (arith, p .2, within t c .1))
+    node-depth (z .args .order) (z .args .v .depth) (z .args .v .next) (p .0 .0) (p .2) (omega (arith, p .1, within t c .1))
 
 -- its bitmap fits
 fits : (t : ℕ) (c : Node t) → let a = start-of t c .args in a .at + length (a .words .now) ≤ 8 * length (a .out .now)
 fits t c =
     let z = start-of t c in
     let n = length (z .args .words .now) in
-    omega (arith, z .pre .1 .5, room-split (z .args .v .depth) n n 0 (shallow t c) (omega arith))
+    omega (arith, z .pre .1 .4, room-split (z .args .v .depth) n n 0 (shallow t c) (omega arith))
 
 -- ## With the words parted
 
@@ -150,13 +151,13 @@ spread-part-requires : (t : ℕ) → spread-lts.Need-part-requires (known t) (sp
 spread-part-requires t c κs =
     let n = c .before .before .before in
     let p = start-of t n .pre .1 in
-    (omega (arith, shallow t n), p .4, fits t n, omega (arith, p .6))
+    (omega (arith, shallow t n), p .3, fits t n, omega (arith, p .5))
 
 spread-side-requires : (t : ℕ) → spread-lts.Need-side-requires (known t) (spread-at t) spread.Post
 spread-side-requires t c κs =
     let n = node-of t (c .before .before .before .before .before .before) in
     let p = start-of t n .pre .1 in
-    (p .0, p .1, p .3, omega (arith, within t n .1, p .2), omega (arith, within t n .0))
+    side-legal _ _ (start-of t n .args .v) _ (p .0) (p .1) (p .2) (test-of t n)
 
 spread-slice-relend-prefix-spread : (t : ℕ) → spread-lts.Need-slice-relend-prefix-spread (known t) (spread-at t) spread.Post
 spread-slice-relend-prefix-spread t c = few t (c .before .before .before .before .before .before .before)
@@ -169,7 +170,7 @@ spread-slice-aggregate-spread t c =
 spread-add-spread : (t : ℕ) → spread-lts.Need-add-spread (known t) (spread-at t) spread.Post
 spread-add-spread t c =
     let n = node-of t (c .before .before .before .before .before .before .before .before .before .before) in
-    omega (arith, fits t n, start-of t n .pre .1 .6)
+    omega (arith, fits t n, start-of t n .pre .1 .5)
 
 spread-spread-requires : (t : ℕ) → spread-lts.Need-spread-requires (known t) (spread-at t) spread.Post
 spread-spread-requires t c κs =
@@ -180,15 +181,14 @@ spread-spread-requires t c κs =
     let a = z .args in
     let u = c .before .before .before .side in
     let deeper = side-depth (a .order) (a .v) (u .result) false (u .ensures .0) in (
-      less (a .order) (a .limit) (a .v) false t (z .pre .0) (u .ensures .0) (omega (arith, p .0)) (within t n),
+      less (a .order) (a .limit) (a .v) false t (z .pre .0) (u .ensures .0) (omega (arith, p .0 .0)) (within t n),
       (
         p .0,
         p .1,
-        p .2,
         u .ensures .1,
-        omega (arith, p .4, length-take (y .part .result) (y .part .last .0), y .part .kept .0, y .part .kept .1 .0),
-        omega (arith, p .5, y .part .kept .1 .1 .1 .0, sides t y deeper refl),
-        omega (arith, p .6, y .part .kept .1 .1 .1 .0),
+        omega (arith, p .3, length-take (y .part .result) (y .part .last .0), y .part .kept .0, y .part .kept .1 .0),
+        omega (arith, p .4, y .part .kept .1 .1 .1 .0, sides t y deeper refl),
+        omega (arith, p .5, y .part .kept .1 .1 .1 .0),
       ),
     )
 
@@ -196,7 +196,7 @@ spread-side-requires-2 : (t : ℕ) → spread-lts.Need-side-requires-2 (known t)
 spread-side-requires-2 t c κs =
     let n = node-of t (part-of t (c .before .before .before .before .before .before)) in
     let p = start-of t n .pre .1 in
-    (p .0, p .1, p .3, omega (arith, within t n .1, p .2), omega (arith, within t n .0))
+    side-legal _ _ (start-of t n .args .v) _ (p .0) (p .1) (p .2) (test-of t n)
 
 spread-mul-spread : (t : ℕ) → spread-lts.Need-mul-spread (known t) (spread-at t) spread.Post
 spread-mul-spread t c =
@@ -224,15 +224,14 @@ spread-spread-requires-2 t c κs =
     let deeper = side-depth (a .order) (a .v) (u .result) true (u .ensures .0) in
     let ones = ap length (kept-ones t x) ∙ length-drop (y .part .result) (y .part .last .0) in
     let out = x .spread .kept .1 .1 .1 .1 .1 .1 .0 ∙ y .part .kept .1 .1 .1 .0 in (
-      less (a .order) (a .limit) (a .v) true t (z .pre .0) (u .ensures .0) (omega (arith, p .0)) (within t n),
+      less (a .order) (a .limit) (a .v) true t (z .pre .0) (u .ensures .0) (omega (arith, p .0 .0)) (within t n),
       (
         p .0,
         p .1,
-        p .2,
         u .ensures .1,
-        omega (arith, p .4, ones, y .part .kept .0, y .part .kept .1 .0, x .spread .kept .1 .1 .1 .1 .1 .0),
-        rw (kept-ones t x) (omega (arith, p .5, x .spread .ensures .0, sides t y (zero-depth t x) deeper, out)),
-        omega (arith, p .6, out),
+        omega (arith, p .3, ones, y .part .kept .0, y .part .kept .1 .0, x .spread .kept .1 .1 .1 .1 .1 .0),
+        rw (kept-ones t x) (omega (arith, p .4, x .spread .ensures .0, sides t y (zero-depth t x) deeper, out)),
+        omega (arith, p .5, out),
       ),
     )
 

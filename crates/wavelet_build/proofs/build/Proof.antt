@@ -4,13 +4,14 @@ use lib.ListN.{length, replicate, length-take}
 use lib.Seq.{sets, length-take-le}
 use borrow.Author.Needs.{needs}
 use Rattle.bits.specs.Bits.{unpack}
-use Rattle.fibonacci.specs.Calls.{Legal}
-use Rattle.fibonacci.proofs.Checks.{positive, each-accepted}
+use Rattle.calls.proofs.Checks.{positive, each-accepted}
+use Rattle.calls.specs.declared.Refusal.the-variants.{OutsideAlphabet}
+use Rattle.calls.specs.Calls.{accepted, countOutcome}
+use Rattle.calls.specs.Limits.{Legal}
 use Rattle.wavelet.specs.Bitmaps.{bitmaps}
-use Rattle.wavelet.specs.Answers.{checkedOutcome, Passed}
+use Rattle.wavelet.specs.Answers.{Passed}
 use Rattle.wavelet.specs.Walk.{mostIndex}
-use Rattle.wavelet.proofs.Answering.{legal, tree-passed, legal-order, legal-alphabet}
-use Rattle.wavelet_build.specs.Building.{filledOutcome}
+use Rattle.wavelet.proofs.Answering.{tree-passed, legal-order, legal-alphabet}
 use Rattle.wavelet_build.proofs.Building.{build-refused, build-number, build-room, build-done}
 use Rattle.wavelet_build.proofs.build.Statement.{statement}
 use Rattle.wavelet_build.proofs.build.Tie as tie
@@ -23,31 +24,32 @@ abbrev fill-at : tie.After-enum-told2 → tie.After-fill
 fill-at c = c .before .before .before
 
 abbrev tree-at : tie.After-enum-told2 → tie.After-enum-told
-tree-at c = fill-at c .before .before
+tree-at c = fill-at c .before .before .before .before
 
 abbrev numbers-at : tie.After-spread-row → tie.After-enum-told2
-numbers-at c = c .before .before .before
+numbers-at c = c .before .before .before .before
 
 -- the order, the alphabet and the length are legal
 passed : (c : tie.After-enum-told) → let a = start-of c .args in Passed (a .order) (a .alphabet) (length (a .row .now))
-passed c = tree-passed _ _ _ (sym (c .before .before .check .ensures) ∙ ap checkedOutcome (c .enum-told .given .1))
+passed c = tree-passed _ _ _ (sym (ap countOutcome (c .enum-told .given .1)) ∙ c .before .before .check .ensures)
 
 -- each number is legal
 numbers : (c : tie.After-enum-told2) → let a = start-of (tree-at c) .args in Legal (a .alphabet) (a .row .now)
 numbers c =
     let a = start-of (tree-at c) .args in
-    each-accepted 10 (a .alphabet) 0 (a .row .now) legal tt (sym (fill-at c .fill .ensures .0) ∙ ap filledOutcome (c .enum-told2 .given .1)) .0
+    each-accepted OutsideAlphabet (a .alphabet) 0 (a .row .now) (accepted (length (a .row .now))) _ (
+    sym (fill-at c .fill .ensures .0) ∙ ap countOutcome (c .enum-told2 .given .1)) .0
 
 -- the bitmaps are written
 built : (c : tie.After-spread-row)
     → let a = start-of (tree-at (numbers-at c)) .args in
     (c .spread-row .result ≡ length (bitmaps (a .order) (a .alphabet) (a .row .now)))
-    × (unpack (c .spread-row .last .1 .1 .1 .0) ≡ sets (unpack (replicate mostIndex 0)) 0 (bitmaps (a .order) (a .alphabet) (a .row .now)))
+    × (unpack (c .spread-row .last .1 .1 .1 .1 .0) ≡ sets (unpack (replicate mostIndex 0)) 0 (bitmaps (a .order) (a .alphabet) (a .row .now)))
 built c =
     let e = numbers-at c in
     let a = start-of (tree-at e) .args in
     c .spread-row .ensures .1 (a .row .now) (positive (a .alphabet) (a .row .now) (numbers e))
-    (fill-at e .fill .ensures .1 (ap filledOutcome (e .enum-told2 .given .1)))
+    (fill-at e .fill .ensures .1 _ (ap countOutcome (e .enum-told2 .given .1)))
 
 check-requires : tie.Need-check-requires
 check-requires c κs = search needs
@@ -60,16 +62,22 @@ returns c =
     let x = c .before .before .before in
     let a = x .before .before .before .args in
     build-refused (a .order) (a .alphabet) (a .row .now) (a .out .now) (c .before .checked .given .0 .0)
-    (sym (ap checkedOutcome (c .before .checked .given .1)) ∙ x .check .ensures)
+    (sym (ap countOutcome (c .before .checked .given .1)) ∙ x .check .ensures)
 
 enum-told : tie.Need-enum-told
 enum-told c = search needs
+
+positions-requires : tie.Need-positions-requires
+positions-requires c κs = legal-order (passed c)
 
 slice-aggregate-fill : tie.Need-slice-aggregate-fill
 slice-aggregate-fill c = search needs
 
 fill-requires : tie.Need-fill-requires
-fill-requires c κs = let p = passed (c .before) in (legal-order p, legal-alphabet p .1, p .count)
+fill-requires c κs =
+    let t = c .before .before in
+    let p = passed (t .before) in
+    (t .positions .ensures, legal-alphabet p .1, p .count)
 
 enum-known-filled : tie.Need-enum-known-filled
 enum-known-filled c = search needs
@@ -77,30 +85,31 @@ enum-known-filled c = search needs
 returns-2 : tie.Need-returns-2
 returns-2 c =
     let f = c .before .before .before .before in
-    let a = start-of (f .before .before) .args in
-    build-number (a .order) (a .alphabet) (a .row .now) (a .out .now) (passed (f .before .before)) _
-    (sym (ap filledOutcome (c .before .filled .given .1)) ∙ f .fill .ensures .0)
+    let t = f .before .before .before .before in
+    let a = start-of t .args in
+    build-number (a .order) (a .alphabet) (a .row .now) (a .out .now) (passed t) _
+    (sym (ap countOutcome (c .before .filled .given .1)) ∙ f .fill .ensures .0)
 
 enum-told-2 : tie.Need-enum-told-2
 enum-told-2 c = search needs
 
 array-borrow-prefix-words : tie.Need-array-borrow-prefix-words
-array-borrow-prefix-words c = omega (arith, passed (tree-at c) .count, fill-at c .fill .kept .1 .1 .1 .0)
+array-borrow-prefix-words c = let e = c .before in omega (arith, passed (tree-at e) .count, fill-at e .fill .kept .1 .1 .1 .1 .0)
 
 slice-aggregate-spread-row : tie.Need-slice-aggregate-spread-row
 slice-aggregate-spread-row c =
-    let e = c .before in
-    sym (length-take-le _ _ (omega (arith, passed (tree-at e) .count, fill-at e .fill .kept .1 .1 .1 .0)))
+    let e = c .before .before in
+    sym (length-take-le _ _ (omega (arith, passed (tree-at e) .count, fill-at e .fill .kept .1 .1 .1 .1 .0)))
 
 slice-aggregate-spread-row-2 : tie.Need-slice-aggregate-spread-row-2
 slice-aggregate-spread-row-2 c = search needs
 
 spread-row-requires : tie.Need-spread-row-requires
 spread-row-requires c κs =
-    let e = c .before .before in
+    let e = c .before .before .before in
     let p = passed (tree-at e) in
     let k = length (start-of (tree-at e) .args .row .now) in
-    (record { order = p .order; alphabet = p .alphabet; count = omega (arith, p .count, length-take k (fill-at e .fill .last .1 .1 .1 .0)) }, omega arith)
+    (fill-at e .before .before .before .positions .ensures, record { order = p .order; alphabet = p .alphabet; count = omega (arith, p .count, length-take k (fill-at e .fill .last .1 .1 .1 .1 .0)) }, omega arith)
 
 add-count : tie.Need-add-count
 add-count c = omega (arith, c .before .before .spread-row .ensures .0)
@@ -118,7 +127,7 @@ slice-aggregate-copy-bytes c = search needs
 copy-bytes-requires : tie.Need-copy-bytes-requires
 copy-bytes-requires c κs =
     let x = c .before .before .before .before .before in
-    (omega (arith, x .spread-row .ensures .0, x .spread-row .kept .1 .1 .1 .0), omega arith)
+    (omega (arith, x .spread-row .ensures .0, x .spread-row .kept .1 .1 .1 .1 .0), omega arith)
 
 same-length : tie.Need-same-length
 same-length c = search needs
@@ -130,7 +139,7 @@ returns-4 c =
     let a = start-of (tree-at e) .args in
     let b = built x in
     build-done (a .order) (a .alphabet) (a .row .now) (a .out .now) (passed (tree-at e)) (numbers e) (x .spread-row .result) (b .0)
-    mostIndex (x .spread-row .last .1 .1 .1 .0) _ (x .spread-row .ensures .0) (b .1) (omega arith)
+    mostIndex (x .spread-row .last .1 .1 .1 .1 .0) _ (x .spread-row .ensures .0) (b .1) (omega arith)
     (c .before .before .copy-bytes .ensures) (λ i. c .slice-known2 .given i .fits)
 
 pub build-spec : {M : Type 1} → statement M
@@ -141,6 +150,7 @@ build-spec =
     enum-known-checked
     returns
     enum-told
+    positions-requires
     slice-aggregate-fill
     fill-requires
     enum-known-filled

@@ -4,25 +4,25 @@ use native.Mathlib.Omega.{arith}
 use lib.ListN.{length, length-set}
 use borrow.Author.Needs.{needs}
 use borrow.Author.Tests.{not-true, not-false}
-use Rattle.fibonacci.specs.Calls.{isNumber}
-use Rattle.fibonacci.proofs.Checks.{number-is}
+use Rattle.calls.proofs.Checks.{number-is}
+use Rattle.calls.specs.Limits.{isNumber}
 use Rattle.wavelet_build.proofs.Filling.{Filling, filling-none, filling-more, filling-fault, filling-end}
 use Rattle.wavelet_build.proofs.fill.Statement.{statement}
 use Rattle.wavelet_build.proofs.fill.Tie as tie
 
 abbrev Inv-loop : tie.InvT-loop
-Inv-loop order alphabet row words₀ positions firsts low limit i₀ i-end words i =
+Inv-loop positions order alphabet row words₀ firsts low limit i₀ i-end words i =
     (i ≤ i-end) × (i-end ≡ length row) × (length words ≡ length words₀) × Filling order alphabet row i words
 
 abbrev μ-loop : tie.MeasureT-loop
-μ-loop order alphabet row words₀ positions firsts low limit i₀ i-end words i = i-end - i
+μ-loop positions order alphabet row words₀ firsts low limit i₀ i-end words i = i-end - i
 
 -- where the walk through the code stands
 abbrev tables-of : tie.At-loop Inv-loop μ-loop → tie.After-wide Inv-loop μ-loop
 tables-of c = c .before
 
 abbrev start-of : tie.At-loop Inv-loop μ-loop → tie.Start Inv-loop μ-loop
-start-of c = tables-of c .before .before .before .before .before .before
+start-of c = tables-of c .before .before .before .before .before
 
 abbrev loop-of : tie.After-is-number Inv-loop μ-loop → tie.At-loop Inv-loop μ-loop
 loop-of c = c .before .before .before .before
@@ -31,21 +31,18 @@ loop-of c = c .before .before .before .before
 checked : (c : tie.After-is-number Inv-loop μ-loop) → isNumber (start-of (loop-of c) .args .alphabet) (c .before .wide2 .result) ≡ c .is-number .result
 checked c = ap (λ (l : ℕ). isNumber l (c .before .wide2 .result)) (sym (tables-of (loop-of c) .wide .ensures)) ∙ sym (c .is-number .ensures)
 
-positions-requires : tie.Need-positions-requires Inv-loop μ-loop
-positions-requires c κs = c .before .before .pre .0
-
 first-numbers-requires : tie.Need-first-numbers-requires Inv-loop μ-loop
-first-numbers-requires c κs = c .before .before .before .pre .0
+first-numbers-requires c κs = c .before .before .pre .0 .0
 
 low-digits-requires : tie.Need-low-digits-requires Inv-loop μ-loop
-low-digits-requires c κs = c .before .before .before .before .pre .0
+low-digits-requires c κs = c .before .before .before .pre .0 .0
 
 wide-requires : tie.Need-wide-requires Inv-loop μ-loop
 wide-requires c κs = tt
 
 loop-holds : tie.Need-loop-holds Inv-loop μ-loop
 loop-holds c =
-    let a = c .before .before .before .before .before .before .args in
+    let a = c .before .before .before .before .before .args in
     (omega arith, refl, refl, filling-none (a .order) (a .alphabet) (a .row .now) (a .words .now))
 
 mul-wide : tie.Need-mul-wide Inv-loop μ-loop
@@ -73,17 +70,17 @@ returns c =
 
 path-requires : tie.Need-path-requires Inv-loop μ-loop
 path-requires c κs =
-    let e = c .before .before .before in
+    let e = c .before .before in
     let t = tables-of (loop-of (e .before)) in
     let p = start-of (loop-of (e .before)) .pre in
     let n = number-is _ _ (checked (e .before) ∙ not-false _ (e .if1 .left)) in
-    (p .0, t .before .before .before .positions .ensures, t .before .before .first-numbers .ensures, n .0, omega (arith, p .1, n .1), t .before .low-digits .ensures)
+    ((p .0, t .before .before .first-numbers .ensures, t .before .low-digits .ensures), n .0, omega (arith, p .1, n .1))
 
 mul-words : tie.Need-mul-words Inv-loop μ-loop
 mul-words c = omega arith
 
 slice-write-words : tie.Need-slice-write-words Inv-loop μ-loop
-slice-write-words c = omega (arith, start-of (loop-of (c .before .before .before .before .before)) .pre .2)
+slice-write-words c = omega (arith, start-of (loop-of (c .before .before .before .before)) .pre .2)
 
 add-i : tie.Need-add-i Inv-loop μ-loop
 add-i c = omega arith
@@ -93,7 +90,7 @@ loop-less c = omega arith
 
 loop-again : tie.Need-loop-again Inv-loop μ-loop
 loop-again c =
-    let e = c .before .before .before .before in
+    let e = c .before .before .before in
     let x = loop-of (e .before) in
     let a = start-of x .args in
     let l = x .loop in
@@ -120,7 +117,6 @@ fill-spec =
     (tie.spec
     Inv-loop
     μ-loop
-    positions-requires
     first-numbers-requires
     low-digits-requires
     wide-requires

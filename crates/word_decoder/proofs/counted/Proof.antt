@@ -3,13 +3,13 @@ use Rattle.word_decoder.proofs.counted.Statement.{statement}
 use Rattle.word_decoder.proofs.counted.Tie as tie
 
 returns : tie.Need-returns
-returns c = (λ f t. omega arith, λ f. omega arith, λ t. omega arith)
+returns c = (λ f t. omega arith, λ f. omega arith, λ t. omega arith, omega arith)
 
 returns-2 : tie.Need-returns-2
-returns-2 c = (λ f t. omega arith, λ f. omega arith, λ t. omega arith)
+returns-2 c = (λ f t. omega arith, λ f. omega arith, λ t. omega arith, omega arith)
 
 returns-3 : tie.Need-returns-3
-returns-3 c = (λ f t. omega arith, λ f. omega arith, λ t. omega arith)
+returns-3 c = (λ f t. omega arith, λ f. omega arith, λ t. omega arith, omega arith)
 
 pub counted-spec : {M : Type 1} → statement M
 counted-spec = tie.close (tie.spec returns returns-2 returns-3)

@@ -1,25 +1,26 @@
-use mathlib.Core.Path.{_≡_, refl, sym, ap, ap₂, _∙_}
+use mathlib.Core.Path.{_≡_, refl, sym, _∙_}
 use mathlib.Core.Bool.{true}
 use mathlib.Core.List.{List, [], _∷_, _++_}
 use Prim.Native.Nat.{ℕ, _+_, _-_, _*_, _%_, _^_, _≤_, _<_, min}
 use native.Mathlib.Omega.{arith}
-use lib.ListN.{length, set}
-use lib.Seq.{sets, length-sets}
+use native.Mathlib.Numerals.{add-one}
+use lib.ListN.{length, take, set, length-set}
+use lib.Seq.{take-suc-set}
 use lib.Count.{leadingZeros, leading-le}
 use borrow.Author.Needs.{needs}
 use borrow.Author.Tests.{not-false}
 use Rattle.bits.specs.Bits.{unpack}
-use Rattle.bits.proofs.Lists.{sets-snoc}
 use Rattle.bits.proofs.Bytes.{unpack-length}
-use Rattle.fibonacci.specs.Calls.{isNumber, longest}
-use Rattle.fibonacci.proofs.Checks.{number-is}
+use Rattle.calls.proofs.Checks.{number-is}
+use Rattle.calls.specs.Limits.{isNumber, longest}
 use Rattle.word_decoder.proofs.Taking.{Going, taken-none, going-filled, going-zero, going-within, going-short, going-more}
+use Rattle.word_decoder.proofs.Spans.{begun-none}
 use Rattle.word_decoder.proofs.take_row.Statement.{statement}
 use Rattle.word_decoder.proofs.take_row.Tie as tie
 
 abbrev Inv-loop : tie.InvT-loop
 Inv-loop firsts order s limit row₀ values most bit₀ count₀ left₀ starts₀ row bit count left starts =
-    (numbers : List ℕ) × Going order limit (unpack s) 0 0 numbers bit count left starts × (row ≡ sets row₀ 0 numbers) × (count ≤ most) × (most ≡ min (length row₀) longest) × (1 ≤ starts)
+    Going order limit (unpack s) 0 0 (take count row) bit count left starts × (length row ≡ length row₀) × (count ≤ most) × (most ≡ min (length row₀) longest) × (1 ≤ starts)
 
 abbrev μ-loop : tie.MeasureT-loop
 μ-loop firsts order s limit row₀ values most bit₀ count₀ left₀ starts₀ row bit count left starts = 8 * length s - bit
@@ -50,42 +51,39 @@ module _ (c : tie.Else2 Inv-loop μ-loop) where
   size = leadingZeros 64 (at .loop .starts) + start .args .order
 
   within : at .loop .bit + size ≤ 8 * length (start .args .s .now)
-  within = end (start .args .s .now) _ (going-within (at .loop .inv .1) (start .pre .0) (at .loop .inv .5))
+  within = end (start .args .s .now) _ (going-within (at .loop .inv .0) (start .pre .0 .0) (at .loop .inv .4))
 
   short : size ≤ 47
-  short = going-short (at .loop .inv .1) (start .pre .0) (at .loop .inv .5) n (c .before .before .number .ensures .0) (passed c) (start .pre .3)
-
-  more : Going (start .args .order) (start .args .limit) (unpack (start .args .s .now)) 0 0
-      (at .loop .inv .0 ++ (n ∷ [])) (at .loop .bit + size) (at .loop .count + 1) (at .loop .left * 2 ^ size % 2 ^ 64) (at .loop .starts * 2 ^ size % 2 ^ 64)
-  more = going-more (at .loop .inv .1) (start .pre .0) (at .loop .inv .5) n (c .before .before .number .ensures .0) (passed c) (start .pre .3)
-
-  stored : set (at .loop .row) (at .loop .count) n ≡ sets (start .args .row .now) 0 (at .loop .inv .0 ++ (n ∷ []))
-  stored =
-      let l : 0 + length (at .loop .inv .0) ≡ at .loop .count = omega (arith, at .loop .inv .1 .many) in
-      sym (sets-snoc (start .args .row .now) 0 (at .loop .inv .0) n ∙ ap₂ (λ (r : List ℕ) (i : ℕ). set r i n) (sym (at .loop .inv .2)) l)
+  short = going-short (at .loop .inv .0) (start .pre .0 .0) (at .loop .inv .4) n (c .before .before .number .ensures .0) (passed c) (start .pre .2)
 
   room : at .loop .count < length (at .loop .row)
-  room = omega (arith, ap length (at .loop .inv .2), length-sets (start .args .row .now) 0 (at .loop .inv .0), inside .loop-test .taken, at .loop .inv .4)
+  room = omega (arith, at .loop .inv .1, inside .loop-test .taken, at .loop .inv .3)
+
+  more : Going (start .args .order) (start .args .limit) (unpack (start .args .s .now)) 0 0
+      (take (at .loop .count + 1) (set (at .loop .row) (at .loop .count) n)) (at .loop .bit + size) (at .loop .count + 1)
+      (at .loop .left * 2 ^ size % 2 ^ 64) (at .loop .starts * 2 ^ size % 2 ^ 64)
+  more =
+      rw (add-one (at .loop .count), take-suc-set (at .loop .row) (at .loop .count) n room, ← add-one (at .loop .count))
+      (going-more (at .loop .inv .0) (start .pre .0 .0) (at .loop .inv .4) n (c .before .before .number .ensures .0) (passed c) (start .pre .2))
+
+  sized : length (set (at .loop .row) (at .loop .count) n) ≡ length (start .args .row .now)
+  sized = length-set (at .loop .row) (at .loop .count) n ∙ at .loop .inv .1
 
 fill-requires : tie.Need-fill-requires Inv-loop μ-loop
 fill-requires c κs = search needs
 
-up-to-requires : tie.Need-up-to-requires Inv-loop μ-loop
-up-to-requires c κs = search needs
+least-requires : tie.Need-least-requires Inv-loop μ-loop
+least-requires c κs = search needs
 
 ahead-requires : tie.Need-ahead-requires Inv-loop μ-loop
-ahead-requires c κs = (c .before .before .before .before .before .pre .0, omega arith)
+ahead-requires c κs = (c .before .before .before .before .before .pre .0 .0, omega arith)
 
 returns : tie.Need-returns Inv-loop μ-loop
-returns c = (
-  record { row = []; begun = record { taken = taken-none _ _ _ 0 (omega arith); many = refl; most = omega arith }; stored = refl },
-  refl,
-)
+returns c = (begun-none _ _ _, refl)
 
 loop-holds : tie.Need-loop-holds Inv-loop μ-loop
 loop-holds c =
     let e = c .before .ahead .ensures in (
-      [],
       record {
         taken = taken-none _ _ _ _ (omega arith);
         many = omega arith;
@@ -95,7 +93,7 @@ loop-holds c =
       },
       refl,
       omega arith,
-      c .before .before .up-to .ensures,
+      c .before .before .least .ensures,
       omega (arith, c .if1 .left),
     )
 
@@ -107,21 +105,21 @@ number-requires c κs =
     let l = c .before .before in
     let f = l .before .before .before .before in
     let p = f .before .before .before .before .pre in
-    (p .0, f .fill .ensures, p .1, going-zero (l .loop .inv .1) (p .0) (l .loop .inv .5))
+    (p .0, f .fill .ensures, going-zero (l .loop .inv .0) (p .0 .0) (l .loop .inv .4))
 
 is-number-requires : tie.Need-is-number-requires Inv-loop μ-loop
 is-number-requires c κs = search needs
 
 same-length : tie.Need-same-length Inv-loop μ-loop
-same-length c = let v = c .before .before .before .before .before .loop .inv in ap length (v .2) ∙ length-sets _ 0 (v .0)
+same-length c = let v = c .before .before .before .before .before .loop .inv in v .1
 
 returns-2 : tie.Need-returns-2 Inv-loop μ-loop
 returns-2 c =
     let v = c .before .before .before .before .before .loop .inv in
-    (record { row = v .0; begun = record { taken = v .1 .taken; many = omega (arith, v .1 .many); most = omega (arith, v .3, v .4) }; stored = v .2 }, refl)
+    (record { taken = v .0 .taken; many = omega (arith, v .0 .many); most = omega (arith, v .2, v .3) }, v .1)
 
 cast-row : tie.Need-cast-row Inv-loop μ-loop
-cast-row c = omega (arith, number-is _ _ (passed c), start c .pre .3)
+cast-row c = omega (arith, number-is _ _ (passed c), start c .pre .2)
 
 mul-row : tie.Need-mul-row Inv-loop μ-loop
 mul-row c = let r = room c in search (needs, r)
@@ -130,13 +128,13 @@ slice-write-row : tie.Need-slice-write-row Inv-loop μ-loop
 slice-write-row c = room c
 
 add-count : tie.Need-add-count Inv-loop μ-loop
-add-count c = omega (arith, inside c .loop-test .taken, at c .loop .inv .4)
+add-count c = omega (arith, inside c .loop-test .taken, at c .loop .inv .3)
 
 add-bit : tie.Need-add-bit Inv-loop μ-loop
 add-bit c = omega (arith, short c)
 
 add-bit-2 : tie.Need-add-bit-2 Inv-loop μ-loop
-add-bit-2 c = omega (arith, within c, start c .pre .2)
+add-bit-2 c = omega (arith, within c, start c .pre .1)
 
 add-left : tie.Need-add-left Inv-loop μ-loop
 add-left c = omega (arith, short c)
@@ -151,47 +149,41 @@ shl-starts : tie.Need-shl-starts Inv-loop μ-loop
 shl-starts c = omega (arith, short c)
 
 ahead-requires-2 : tie.Need-ahead-requires-2 Inv-loop μ-loop
-ahead-requires-2 c κs = (start (c .before) .pre .0, within (c .before))
+ahead-requires-2 c κs = (start (c .before) .pre .0 .0, within (c .before))
 
 same-length-2 : tie.Need-same-length-2 Inv-loop μ-loop
-same-length-2 c = let e = c .before .before .before in ap length (stored e) ∙ length-sets (start e .args .row .now) 0 (at e .loop .inv .0 ++ (n e ∷ []))
+same-length-2 c = sized (c .before .before .before)
 
 returns-3 : tie.Need-returns-3 Inv-loop μ-loop
 returns-3 c =
     let e = c .before .before .before in
-    let g = more e in (
-      record {
-        row = _;
-        begun = record { taken = g .taken; many = omega (arith, g .many); most = omega (arith, inside e .loop-test .taken, at e .loop .inv .4) };
-        stored = stored e;
-      },
-      refl,
-    )
+    let g = more e in
+    (record { taken = g .taken; many = omega (arith, g .many); most = omega (arith, inside e .loop-test .taken, at e .loop .inv .3) }, sized e)
 
 loop-less : tie.Need-loop-less Inv-loop μ-loop
-loop-less c = let e = c .before .before .before in omega (arith, within e, start e .pre .0)
+loop-less c = let e = c .before .before .before in omega (arith, within e, start e .pre .0 .0)
 
 loop-again : tie.Need-loop-again Inv-loop μ-loop
 loop-again c =
     let e = c .before .before .before in
     let a = c .before .ahead2 .ensures in
-    (_, going-filled (more e) _ _ (a .0) (a .1) (a .2), stored e, omega (arith, inside e .loop-test .taken), at e .loop .inv .4, omega (arith, c .if4 .left))
+    (going-filled (more e) _ _ (a .0) (a .1) (a .2), sized e, omega (arith, inside e .loop-test .taken), at e .loop .inv .3, omega (arith, c .if4 .left))
 
 loop-less-2 : tie.Need-loop-less-2 Inv-loop μ-loop
-loop-less-2 c = omega (arith, within (c .before), start (c .before) .pre .0)
+loop-less-2 c = omega (arith, within (c .before), start (c .before) .pre .0 .0)
 
 loop-again-2 : tie.Need-loop-again-2 Inv-loop μ-loop
 loop-again-2 c =
     let e = c .before in
-    (_, more e, stored e, omega (arith, inside e .loop-test .taken), at e .loop .inv .4, omega (arith, c .if3 .left))
+    (more e, sized e, omega (arith, inside e .loop-test .taken), at e .loop .inv .3, omega (arith, c .if3 .left))
 
 same-length-3 : tie.Need-same-length-3 Inv-loop μ-loop
-same-length-3 c = let v = c .before .loop .inv in ap length (v .2) ∙ length-sets _ 0 (v .0)
+same-length-3 c = let v = c .before .loop .inv in v .1
 
 returns-4 : tie.Need-returns-4 Inv-loop μ-loop
 returns-4 c =
     let v = c .before .loop .inv in
-    (record { row = v .0; begun = record { taken = v .1 .taken; many = omega (arith, v .1 .many); most = omega (arith, v .3, v .4) }; stored = v .2 }, refl)
+    (record { taken = v .0 .taken; many = omega (arith, v .0 .many); most = omega (arith, v .2, v .3) }, v .1)
 
 pub take-row-spec : {M : Type 1} → statement M
 take-row-spec =
@@ -200,7 +192,7 @@ take-row-spec =
     Inv-loop
     μ-loop
     fill-requires
-    up-to-requires
+    least-requires
     ahead-requires
     returns
     loop-holds
@@ -215,10 +207,10 @@ take-row-spec =
     add-count
     add-bit
     add-bit-2
-    add-left
-    shl-left
     add-starts
     shl-starts
+    add-left
+    shl-left
     ahead-requires-2
     same-length-2
     returns-3

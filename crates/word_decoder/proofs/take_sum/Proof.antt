@@ -10,8 +10,8 @@ use borrow.Author.Tests.{not-false}
 use Rattle.bits.specs.Bits.{unpack}
 use Rattle.bits.proofs.Bytes.{unpack-length}
 use Rattle.fibonacci.specs.Code.{sum}
-use Rattle.fibonacci.specs.Calls.{isNumber, largest}
-use Rattle.fibonacci.proofs.Checks.{number-is}
+use Rattle.calls.proofs.Checks.{number-is}
+use Rattle.calls.specs.Limits.{isNumber, largest}
 use Rattle.fibonacci.proofs.Sums.{sum-snoc}
 use Rattle.word_decoder.proofs.Taking.{Going, taken-none, going-filled, going-zero, going-within, going-short, going-more}
 use Rattle.word_decoder.proofs.take_sum.Statement.{statement}
@@ -51,20 +51,20 @@ module _ (c : tie.Else2 Inv-loop μ-loop) where
   size = leadingZeros 64 (at .loop .starts) + start .args .order
 
   within : at .loop .bit + size ≤ 8 * length (start .args .s .now)
-  within = end (start .args .s .now) _ (going-within (at .loop .inv .1) (start .pre .0) (at .loop .inv .6))
+  within = end (start .args .s .now) _ (going-within (at .loop .inv .1) (start .pre .0 .0) (at .loop .inv .6))
 
   short : size ≤ 47
-  short = going-short (at .loop .inv .1) (start .pre .0) (at .loop .inv .6) n (c .before .before .number .ensures .0) (passed c) (start .pre .4)
+  short = going-short (at .loop .inv .1) (start .pre .0 .0) (at .loop .inv .6) n (c .before .before .number .ensures .0) (passed c) (start .pre .3)
 
   more : Going (start .args .order) (start .args .limit) (unpack (start .args .s .now)) (start .args .from .bit) (start .args .from .count)
       (at .loop .inv .0 ++ (n ∷ [])) (at .loop .bit + size) (at .loop .count + 1) (at .loop .left * 2 ^ size % 2 ^ 64) (at .loop .starts * 2 ^ size % 2 ^ 64)
-  more = going-more (at .loop .inv .1) (start .pre .0) (at .loop .inv .6) n (c .before .before .number .ensures .0) (passed c) (start .pre .4)
+  more = going-more (at .loop .inv .1) (start .pre .0 .0) (at .loop .inv .6) n (c .before .before .number .ensures .0) (passed c) (start .pre .3)
 
   summed : at .loop .sum + n ≡ sum (at .loop .inv .0 ++ (n ∷ []))
   summed = omega (arith, sum-snoc (at .loop .inv .0) n, at .loop .inv .2)
 
   little : at .loop .sum + n ≤ largest * length (at .loop .inv .0 ++ (n ∷ []))
-  little = omega (arith, length-append (at .loop .inv .0) (n ∷ []), at .loop .inv .3, number-is _ _ (passed c), start .pre .4)
+  little = omega (arith, length-append (at .loop .inv .0) (n ∷ []), at .loop .inv .3, number-is _ _ (passed c), start .pre .3)
 
   few : (start .args .from .count ≤ start .args .until → at .loop .count + 1 ≤ start .args .until)
       × (start .args .until ≤ start .args .from .count → at .loop .inv .0 ++ (n ∷ []) ≡ [])
@@ -74,14 +74,14 @@ module _ (c : tie.Else2 Inv-loop μ-loop) where
   )
 
 ahead-requires : tie.Need-ahead-requires Inv-loop μ-loop
-ahead-requires c κs = (c .before .pre .0, c .before .pre .6)
+ahead-requires c κs = (c .before .pre .0 .0, c .before .pre .5)
 
 returns : tie.Need-returns Inv-loop μ-loop
 returns c =
     let z = c .before .before .before in
     record {
       row = [];
-      taken = taken-none _ _ _ _ (omega (arith, unpack-length (z .args .s .now), z .pre .6));
+      taken = taken-none _ _ _ _ (omega (arith, unpack-length (z .args .s .now), z .pre .5));
       many = omega arith;
       total = refl;
       few = λ h. h;
@@ -94,7 +94,7 @@ loop-holds c =
     let z = c .before .before .before in (
       [],
       record {
-        taken = taken-none _ _ _ _ (omega (arith, unpack-length (z .args .s .now), z .pre .6));
+        taken = taken-none _ _ _ _ (omega (arith, unpack-length (z .args .s .now), z .pre .5));
         many = omega arith;
         ahead = e .0;
         marked = e .1;
@@ -113,7 +113,7 @@ cast-len c = omega (arith, leading-le 64 (c .before .loop .starts))
 number-requires : tie.Need-number-requires Inv-loop μ-loop
 number-requires c κs =
     let p = c .before .before .before .before .before .pre in
-    (p .0, p .1, p .2, going-zero (c .before .loop .inv .1) (p .0) (c .before .loop .inv .6))
+    (p .0, p .1, going-zero (c .before .loop .inv .1) (p .0 .0) (c .before .loop .inv .6))
 
 is-number-requires : tie.Need-is-number-requires Inv-loop μ-loop
 is-number-requires c κs = search needs
@@ -133,7 +133,7 @@ add-bit : tie.Need-add-bit Inv-loop μ-loop
 add-bit c = omega (arith, short c)
 
 add-bit-2 : tie.Need-add-bit-2 Inv-loop μ-loop
-add-bit-2 c = omega (arith, within c, start c .pre .3)
+add-bit-2 c = omega (arith, within c, start c .pre .2)
 
 add-left : tie.Need-add-left Inv-loop μ-loop
 add-left c = omega (arith, short c)
@@ -148,7 +148,7 @@ shl-starts : tie.Need-shl-starts Inv-loop μ-loop
 shl-starts c = omega (arith, short c)
 
 ahead-requires-2 : tie.Need-ahead-requires-2 Inv-loop μ-loop
-ahead-requires-2 c κs = (start (c .before) .pre .0, within (c .before))
+ahead-requires-2 c κs = (start (c .before) .pre .0 .0, within (c .before))
 
 returns-3 : tie.Need-returns-3 Inv-loop μ-loop
 returns-3 c =
@@ -156,7 +156,7 @@ returns-3 c =
     record { row = _; taken = more e .taken; many = more e .many; total = summed e; few = few e .0; none = few e .1 }
 
 loop-less : tie.Need-loop-less Inv-loop μ-loop
-loop-less c = let e = c .before .before .before in omega (arith, within e, start e .pre .0)
+loop-less c = let e = c .before .before .before in omega (arith, within e, start e .pre .0 .0)
 
 loop-again : tie.Need-loop-again Inv-loop μ-loop
 loop-again c =
@@ -165,7 +165,7 @@ loop-again c =
     (_, going-filled (more e) _ _ (a .0) (a .1) (a .2), summed e, little e, few e .0, few e .1, omega (arith, c .if4 .left))
 
 loop-less-2 : tie.Need-loop-less-2 Inv-loop μ-loop
-loop-less-2 c = omega (arith, within (c .before), start (c .before) .pre .0)
+loop-less-2 c = omega (arith, within (c .before), start (c .before) .pre .0 .0)
 
 loop-again-2 : tie.Need-loop-again-2 Inv-loop μ-loop
 loop-again-2 c = let e = c .before in (_, more e, summed e, little e, few e .0, few e .1, omega (arith, c .if3 .left))
@@ -192,10 +192,10 @@ take-sum-spec =
     add-count
     add-bit
     add-bit-2
-    add-left
-    shl-left
     add-starts
     shl-starts
+    add-left
+    shl-left
     ahead-requires-2
     returns-3
     loop-less

@@ -1,7 +1,7 @@
 use mathlib.Core.Path.{_≡_, sym, ap, _∙_}
-use Prim.Native.Nat.{ℕ, _+_, _-_, _≤_, _<_, _*_, _%_, _^_}
+use Prim.Native.Nat.{ℕ, _+_, _≤_, _<_, _*_, _/_, _%_, _^_}
 use native.Mathlib.Omega.{arith}
-use lib.Bits.{bitAnd, and-le-l}
+use lib.Bits.{bitAnd, and-le-l, and-mask}
 use borrow.Author.Needs.{needs}
 use Rattle.bits.specs.Bits.{wordBits}
 use Rattle.bits.proofs.Words.{words-length}
@@ -30,30 +30,24 @@ returns c =
     let two = pair (a .w) (c .before .fits .w .fits) in
     (two .0 ∙ ap (λ (m : ℕ). starts m (wordBits 64 (a .w))) (sym (c .if1 .taken)), two .1)
 
-sub-result : tie.Need-sub-result
-sub-result c = search needs
-
 shl-result : tie.Need-shl-result
 shl-result c = search needs
 
 returns-2 : tie.Need-returns-2
 returns-2 c =
     let a = c .before .before .args in
-    joined (a .w) 2 (a .order - 2) (a .order) _ (pair (a .w) (c .before .before .fits .w .fits)) (omega arith) (omega arith) (omega arith) (omega arith)
-
-sub-result-2 : tie.Need-sub-result-2
-sub-result-2 c = search needs
+    let k : a .order / 2 ^ 1 + 2 ≡ a .order = omega arith in
+    joined (a .w) 2 (a .order / 2 ^ 1) (a .order) _ (pair (a .w) (c .before .before .fits .w .fits)) (omega arith) (omega arith) (omega arith) (omega arith)
 
 shl-result-2 : tie.Need-shl-result-2
-shl-result-2 c = search needs
+shl-result-2 c = omega (arith, and-mask (c .before .before .args .order) 2)
 
 returns-3 : tie.Need-returns-3
 returns-3 c =
     let a = c .before .before .args in
+    let k : bitAnd (a .order) 3 + 4 ≡ a .order = omega (arith, and-mask (a .order) 2) in
     let four = joined (a .w) 2 2 4 _ (pair (a .w) (c .before .before .fits .w .fits)) (omega arith) (omega arith) (omega arith) (omega arith) in
-    joined (a .w) 4 (a .order - 4) (a .order) _ four (omega arith) (omega arith) (omega arith) (omega arith)
+    joined (a .w) 4 (bitAnd (a .order) 3) (a .order) _ four (omega arith) (omega arith) (omega arith) (omega arith)
 
 pub marks-spec : {M : Type 1} → statement M
-marks-spec =
-    tie.close
-    (tie.spec returns sub-result shl-result returns-2 sub-result-2 shl-result-2 returns-3)
+marks-spec = tie.close (tie.spec returns shl-result returns-2 shl-result-2 returns-3)

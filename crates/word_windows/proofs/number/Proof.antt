@@ -4,10 +4,10 @@ use native.Mathlib.Omega.{arith}
 use native.Mathlib.Decide.{decLe}
 use borrow.Author.Needs.{needs}
 use Rattle.fibonacci.specs.Code.{first}
-use Rattle.fibonacci.specs.Calls.{isNumber, largest}
+use Rattle.calls.proofs.Checks.{above-number}
+use Rattle.calls.specs.Limits.{isNumber, largest}
 use Rattle.fibonacci.proofs.Numbers.{first-pos}
 use Rattle.fibonacci.proofs.Lookup.{bounded-is, bounded-none, bounded-some, first-few, first-within}
-use Rattle.fibonacci.proofs.Checks.{above-number}
 use Rattle.digit_values.specs.Values.{Capped}
 use Rattle.word_windows.specs.Windows.{Judged}
 use Rattle.word_windows.proofs.number.Statement.{statement}
@@ -29,7 +29,7 @@ short : (c : tie.After-first-number) → let a = c .before .before .args in
     (first (a .order) (a .len) ≤ largest) × (c .first-number .result ≡ first (a .order) (a .len))
 short c =
     let a = c .before .before .args in
-    let few = first-few (a .order) (a .len) (c .before .before .pre .0) (c .before .if1 .taken) in
+    let few = first-few (a .order) (a .len) (c .before .before .pre .0 .0) (c .before .if1 .taken) in
     (few, omega (arith, bounded-is _ few))
 
 near : (c : tie.Else2) → let a = c .before .before .before .args in
@@ -68,8 +68,8 @@ returns-2 c =
 value-requires : tie.Need-value-requires
 value-requires c κs =
     let p = c .before .before .before .pre in
-    let o = p .0 in
-    (o, p .1, omega (arith, first-within _ o _ (near c .0)), p .3)
+    let o = p .0 .0 in
+    (o, p .1, omega (arith, first-within _ o _ (near c .0)), p .2)
 
 add-result-2 : tie.Need-add-result-2
 add-result-2 c = omega (arith, near (c .before), c .value .ensures .1)

@@ -1,9 +1,0 @@
-use borrow.Author.Needs.{needs}
-use Rattle.answers.proofs.refused.Statement.{statement}
-use Rattle.answers.proofs.refused.Tie as tie
-
-returns : tie.Need-returns
-returns c = search needs
-
-pub refused-spec : {M : Type 1} → statement M
-refused-spec = tie.close (tie.spec returns)

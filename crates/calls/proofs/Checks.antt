@@ -1,0 +1,136 @@
+-- The checks that calls make: what it says that one is passed, that a chain of them accepts, and that each number of a row passes.
+use mathlib.Core.Path.{_≡_, refl, sym}
+use mathlib.Core.Bool.{Bool, true, false, not, _&&_, false≢true}
+use mathlib.Core.List.{List, [], _∷_}
+use Prim.Native.Nat.{ℕ, zero, suc, _+_, _≤_, _<_}
+use native.Mathlib.Omega.{arith}
+use native.Mathlib.Numerals.{add-one}
+use lib.Dec.{leb}
+use lib.ListN.{length, getD, drop}
+use lib.Seq.{drop-cons}
+use borrow.Author.Tests.{le-leb, lt-leb, leb-true, not-false}
+use Rattle.calls.specs.declared.Refusal.{Refusal}
+use Rattle.calls.specs.Calls.{Outcome, accepted, refused, check, andThen}
+use Rattle.calls.specs.Limits.{All, within, isOrder, Order, isNumber, Legal, checkEach}
+
+-- ## One number
+
+pub both : (a b : Bool) → (a && b) ≡ true → (a ≡ true) × (b ≡ true)
+both true b e = (refl, e)
+both false b e = absurd (false≢true e)
+
+within-both : (low high x : ℕ) → within low high x ≡ true → (low ≤ x) × (x ≤ high)
+within-both low high x e = let p = both (leb low x) (leb x high) e in (leb-true low x (p .0), leb-true x high (p .1))
+
+pub order-is : (m : ℕ) → isOrder m ≡ true → Order m
+unfolding isOrder
+order-is m e = within-both 2 6 m e
+
+pub is-order : (m : ℕ) → Order m → isOrder m ≡ true
+unfolding isOrder
+is-order m h = simp (le-leb 2 m (h .0), le-leb m 6 (h .1))
+
+pub number-is : (limit n : ℕ) → isNumber limit n ≡ true → (1 ≤ n) × (n ≤ limit)
+unfolding isNumber
+number-is limit n e = within-both 1 limit n e
+
+pub is-number : (limit n : ℕ) → 1 ≤ n → n ≤ limit → isNumber limit n ≡ true
+unfolding isNumber
+is-number limit n p h = simp (le-leb 1 n p, le-leb n limit h)
+
+pub above-number : (limit n : ℕ) → 1 ≤ n → limit < n → isNumber limit n ≡ false
+unfolding isNumber
+above-number limit n p h = simp (le-leb 1 n p, lt-leb n limit h)
+
+-- the numbers of a row are from 1 up
+pub positive : (limit : ℕ) (row : List ℕ) → Legal limit row → All (λ n. 1 ≤ n) row
+positive limit [] a = tt
+positive limit (n ∷ row) a = (number-is limit n (a .0) .0, positive limit row (a .1))
+
+-- the number at a place of a legal row is legal
+pub legal-at : (limit : ℕ) (row : List ℕ) (i : ℕ) → Legal limit row → i < length row → isNumber limit (getD row i 0) ≡ true
+legal-at limit [] i a h = absurd (omega arith)
+legal-at limit (n ∷ row) zero a h = a .0
+legal-at limit (n ∷ row) (suc i) a h = legal-at limit row i (a .1) (omega arith)
+
+-- ## Chains of checks
+
+pub not-both : {A : Type 0} {r : Refusal} {x : A} → refused r ≡ accepted x → ⊥
+not-both e = let z : _≡_ {A = ℕ} 0 1 = cc in omega arith
+
+pub accepted-one : {A : Type 0} {x y : A} → accepted x ≡ accepted y → x ≡ y
+accepted-one e = cc
+
+pub refused-one : {A : Type 0} {r q : Refusal} → _≡_ {A = Outcome A} (refused r) (refused q) → r ≡ q
+refused-one e = cc
+
+pub refused-same : {A B : Type 0} {r q : Refusal} → _≡_ {A = Outcome A} (refused r) (refused q) → _≡_ {A = Outcome B} (refused r) (refused q)
+refused-same {r = r} {q = q} e = let a : r ≡ q = refused-one e in cc
+
+-- what a chain of checks accepts has passed its first
+pub check-passed : {A : Type 0} (r : Refusal) (t : Bool) (next : Outcome A) (x : A) → check r t next ≡ accepted x → (t ≡ false) × (next ≡ accepted x)
+check-passed r true next x e = absurd (not-both e)
+check-passed r false next x e = (refl, e)
+
+-- what goes on after an accepted part has that part
+pub then-passed : {A B : Type 0} (d : Outcome A) (next : A → Outcome B) (x : B) → andThen d next ≡ accepted x
+    → (y : A) × (d ≡ accepted y) × (next y ≡ accepted x)
+then-passed (accepted y) next x e = (y, refl, e)
+then-passed (refused r) next x e = absurd (not-both e)
+
+-- two chains that begin with the same check refuse alike where what comes after does
+either : {A B : Type 0} (r : Refusal) (t : Bool) (x : Outcome A) (y : Outcome B) (q : Refusal) → (x ≡ refused q → y ≡ refused q)
+    → check r (not t) x ≡ refused q → check r (not t) y ≡ refused q
+either r true x y q go e = go e
+either r false x y q go e = refused-same e
+
+-- ## A part of a call that tells something of what the definition accepts
+
+-- what was told of an accepted part is known of it
+pub told-accepted : {A B : Type 0} (d : Outcome A) (f : A → B) (y : B) → accepted y ≡ andThen d (λ x. accepted (f x)) → (x : A) × (d ≡ accepted x) × (y ≡ f x)
+told-accepted (accepted x) f y e = (x, refl, accepted-one e)
+told-accepted (refused r) f y e = absurd (not-both (sym e))
+
+-- and a refusal is that of the part
+pub told-refused : {A B : Type 0} (d : Outcome A) (f : A → B) (r : Refusal) → refused r ≡ andThen d (λ x. accepted (f x)) → d ≡ refused r
+told-refused (accepted x) f r e = absurd (not-both e)
+told-refused (refused q) f r e = sym (refused-same e)
+
+-- ## Each number of a row
+
+pub each-passed : {A : Type 0} (fault : ℕ → Refusal) (limit place : ℕ) (row : List ℕ) (next : Outcome A) → Legal limit row
+    → checkEach fault limit place row next ≡ next
+unfolding checkEach
+each-passed fault limit place [] next a = refl
+each-passed fault limit place (n ∷ row) next a = rw (a .0) (each-passed fault limit (suc place) row next (a .1))
+
+pub each-accepted : {A : Type 0} (fault : ℕ → Refusal) (limit place : ℕ) (row : List ℕ) (next : Outcome A) (x : A)
+    → checkEach fault limit place row next ≡ accepted x → Legal limit row × (next ≡ accepted x)
+unfolding checkEach
+each-accepted fault limit place [] next x e = (tt, e)
+each-accepted fault limit place (n ∷ row) next x e =
+    let p = check-passed (fault place) (not (isNumber limit n)) _ x e in
+    let r = each-accepted fault limit (suc place) row next x (p .1) in
+    ((not-false _ (p .0), r .0), r .1)
+
+-- a refusal does not hang on what comes after
+pub each-refused : {A B : Type 0} (fault : ℕ → Refusal) (limit place : ℕ) (row : List ℕ) (x : A) (r : Refusal) (next : Outcome B)
+    → checkEach fault limit place row (accepted x) ≡ refused r → checkEach fault limit place row next ≡ refused r
+unfolding checkEach
+each-refused fault limit place [] x r next e = absurd (not-both (sym e))
+each-refused fault limit place (n ∷ row) x r next e =
+    either (fault place) (isNumber limit n) _ _ r (each-refused fault limit (suc place) row x r next) e
+
+-- number by number, with n at place i
+module _ (fault : ℕ → Refusal) (limit : ℕ) (row : List ℕ) (i n : ℕ) (h : i < length row) (e : n ≡ getD row i 0) where
+  left : drop i row ≡ n ∷ drop (i + 1) row
+  left = rw (add-one, e) (drop-cons row i 0 h)
+
+  pub each-more : {A : Type 0} (next : Outcome A) → isNumber limit n ≡ true
+      → checkEach fault limit i (drop i row) next ≡ checkEach fault limit (i + 1) (drop (i + 1) row) next
+  unfolding checkEach
+  each-more next q = rw (left, q, add-one)
+
+  pub each-fault : {A : Type 0} (next : Outcome A) → isNumber limit n ≡ false → checkEach fault limit i (drop i row) next ≡ refused (fault i)
+  unfolding checkEach
+  each-fault next q = rw (left, q)

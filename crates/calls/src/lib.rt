@@ -1,0 +1,147 @@
+// What every call says: why it refuses, how many there are of something, and the limits that it checks.
+ghost use mathlib.Core.Path.{_≡_};
+ghost use Prim.Native.Nat.{min};
+ghost use Rattle.calls.specs.Refusals.{reason};
+ghost use Rattle.calls.specs.Limits.{isOrder, isNumber};
+
+// Why a call refuses: a case for each meaning, of which several may have the same number in the papers.
+pub enum Refusal {
+    // 1: the order is not 2 to 6.
+    BadOrder,
+    // 2: an encoding has more bytes than one can have.
+    TooManyBytes,
+    // 2: more bytes are in use than the buffer has.
+    PastBuffer,
+    // 3: the number at this place is 0, or above the limit of a row.
+    BadNumber(usize),
+    // 4: a row has more than 4,096 numbers.
+    TooManyNumbers,
+    // 4: a 4,097th codeword ends in an encoding.
+    TooManyCodewords,
+    // 4: a number more would make more than 4,096.
+    FullRow,
+    // 4: the input of the listing program has more bytes than its lines can.
+    TooMuchInput,
+    // 5: an output is too short.
+    NoRoom,
+    // 6: after the last codeword remain eight bits or more, or a one.
+    BadRest,
+    // 7: the number at this place of an encoding is above the limit.
+    TooLarge(usize),
+    // 8: the places of a span are not in their order, or not in the row.
+    BadSpan,
+    // 8: the place is not in the row.
+    BadPlace,
+    // 8: uses are counted from 1.
+    BadUse,
+    // 9: the alphabet is not 1 to 4,096.
+    BadAlphabet,
+    // 10: the number at this place is 0 or above the alphabet.
+    OutsideAlphabet(usize),
+    // 11: the bytes are not exactly as many as the bitmaps need, or the padding holds a one.
+    NotAnIndex,
+    // 12: the number stands in the row fewer times.
+    TooFewUses,
+    // 13: a line of the listing program's input has another form, or there is none.
+    BadLine,
+    // 14: the repeats are not 1 to 10,000.
+    BadRepeats,
+}
+
+// A refusal as the papers give it: its number, and a place, which is 0 where they name none.
+pub struct Numbered {
+    pub number: u64,
+    pub place: usize,
+}
+
+fn told(number: u64, place: usize) -> Numbered
+    ensures { λ x. ⌜ (x .number ≡ number) × (x .place ≡ place) ⌝ }
+{
+    Numbered { number, place }
+}
+
+pub fn reason(r: Refusal) -> Numbered
+    ensures { λ x. ⌜ (x .number ≡ reason r .0) × (x .place ≡ reason r .1) ⌝ }
+{
+    match r {
+        Refusal::BadOrder => told(1, 0),
+        Refusal::TooManyBytes => told(2, 0),
+        Refusal::PastBuffer => told(2, 0),
+        Refusal::BadNumber(place) => told(3, place),
+        Refusal::TooManyNumbers => told(4, 0),
+        Refusal::TooManyCodewords => told(4, 0),
+        Refusal::FullRow => told(4, 0),
+        Refusal::TooMuchInput => told(4, 0),
+        Refusal::NoRoom => told(5, 0),
+        Refusal::BadRest => told(6, 0),
+        Refusal::TooLarge(place) => told(7, place),
+        Refusal::BadSpan => told(8, 0),
+        Refusal::BadPlace => told(8, 0),
+        Refusal::BadUse => told(8, 0),
+        Refusal::BadAlphabet => told(9, 0),
+        Refusal::OutsideAlphabet(place) => told(10, place),
+        Refusal::NotAnIndex => told(11, 0),
+        Refusal::TooFewUses => told(12, 0),
+        Refusal::BadLine => told(13, 0),
+        Refusal::BadRepeats => told(14, 0),
+    }
+}
+
+// A refusal in words, by its number. Which is given when, paper 01 says; 13 is the listing program's alone.
+pub const REFUSALS: [u8; 514] = *b"\
+\n\
+the order is not 2 to 6\n\
+more than 24064 bytes, or more in use than the buffer has\n\
+a number is 0\n\
+more than 4096 numbers\n\
+the output is too short\n\
+8 bits or more, or a one, remain after the last codeword\n\
+a number is above 4294967295\n\
+the place, the span or the use is not in the row\n\
+the alphabet is not 1 to 4096\n\
+a number is 0 or above the alphabet\n\
+the bytes are no index of so many numbers\n\
+the number stands in the row fewer times\n\
+a line of the input has another form, or there is none\n\
+the repeats are not 1 to 10000\n";
+
+// What a call answers whose one result is a count: of numbers, bits or bytes.
+pub enum CountAnswer {
+    Count(usize),
+    Refused(Refusal),
+}
+
+// The limits of paper 01: the largest number of a row, how many numbers a row has at most, and how many bytes their encoding has at most.
+pub const LARGEST: u64 = 4294967295;
+
+pub const LONGEST: usize = 4096;
+
+pub const MOST_BYTES: usize = 24064;
+
+// The check of an order.
+pub fn is_order(order: usize) -> bool
+    ensures { λ r. ⌜ r ≡ isOrder order ⌝ }
+{
+    2 <= order && order <= 6
+}
+
+// The check of a number, in a row whose numbers go up to a limit.
+pub fn is_number(n: u64, limit: u64) -> bool
+    ensures { λ r. ⌜ r ≡ isNumber limit n ⌝ }
+{
+    1 <= n && n <= limit
+}
+
+// The smaller of two counts.
+pub fn least(a: usize, b: usize) -> usize
+    ensures { λ r. ⌜ r ≡ min a b ⌝ }
+{
+    if a < b { a } else { b }
+}
+
+// A number of 32 bits as one of 64.
+pub fn wide(x: u32) -> u64
+    ensures { λ r. ⌜ r ≡ x ⌝ }
+{
+    x as u64
+}

@@ -1,2 +1,0 @@
-pub mod Climbing
-pub mod Seeking

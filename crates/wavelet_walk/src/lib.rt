@@ -1,0 +1,186 @@
+// The walk of the three questions: down the tree the way of a number, and for select back. It goes over every bitmap once, which also shows whether the
+// bytes are an index.
+ghost use mathlib.Core.Path.{_≡_};
+ghost use Prim.Native.Nat.{_+_, _-_, _*_, _≤_, _<_};
+ghost use lib.ListN.{length, take, drop};
+ghost use Rattle.bits.specs.Bits.{unpack, place};
+ghost use Rattle.wavelet.specs.Walk.{Ready, side, mostIndex};
+ghost use Rattle.wavelet_walk.specs.Descent.{InView, turn, reached, onward, back, Finds, Walks};
+use calls::CountAnswer;
+use calls::Refusal;
+use wavelet::QuestionAnswer;
+
+// What a walk is for. It has a place or a use in view.
+pub enum Question {
+    // The number at the place: at a node the walk goes by the bit there.
+    Extract,
+    // How often a number stands before the place: the walk goes by its codeword.
+    Rank,
+    // The place of the use of a number, by how many others stand before it: the walk goes by its codeword.
+    Select,
+}
+
+// What a walk finds: where the bitmaps end; what the question asks for, and how many nodes begin the codeword of the number that the walk comes to.
+struct Found {
+    end: usize,
+    result: usize,
+    visits: usize,
+}
+
+// The bitmaps run past the bytes, and nothing is found.
+fn lost(end: usize) -> Found
+    ensures { λ r. ⌜ r .end ≡ end ⌝ }
+{
+    Found {
+        end,
+        result: 0,
+        visits: 0,
+    }
+}
+
+// What is found where only the number n is left, k times.
+fn reached(asked: Question, n: usize, k: usize, i: usize) -> usize
+    ensures { λ r. ⌜ r ≡ reached asked n k i ⌝ }
+{
+    match asked {
+        Question::Extract => n,
+        Question::Rank => i,
+        Question::Select => calls::least(i, k),
+    }
+}
+
+// Whether a walk goes on with a 1 from a node whose bitmap starts at bit `at`; x is the codeword that it goes by.
+fn takes_one(asked: Question, x: u32, b: &[u8], at: usize, i: usize, depth: usize) -> bool
+    requires { ⌜ (depth < 32) × InView asked (at + i) (8 * length (now b)) × (length (now b) ≤ mostIndex) ⌝ }
+    ensures { λ r. ⌜ r ≡ turn asked x (now (b .entry)) at i depth ⌝ }
+{
+    match asked {
+        Question::Extract => bits::bit(b, at + i),
+        _ => wavelet::next_bit(x, depth),
+    }
+}
+
+// How many numbers are on a side of a node that has k, of which `ones` are on the 1 side.
+fn count_on(one: bool, k: usize, ones: usize) -> usize
+    requires { ⌜ ones ≤ k ⌝ }
+    ensures { λ r. ⌜ r ≡ side one (k - ones) ones ⌝ }
+{
+    if one { ones } else { k - ones }
+}
+
+// What is in view on a side of a node: a place becomes how many of the numbers before it are on that side, and a use stays the same one.
+fn onward(asked: Question, b: &[u8], at: usize, i: usize, one: bool) -> usize
+    requires { ⌜ InView asked (at + i) (8 * length (now b)) × (length (now b) ≤ mostIndex) ⌝ }
+    ensures { λ r. ⌜ r ≡ onward asked one (drop at (unpack (now (b .entry)))) i ⌝ }
+{
+    match asked {
+        Question::Select => i,
+        _ => count_on(one, i, wavelet_ends::ones_in(b, at, i)),
+    }
+}
+
+// The place of the bit v that has j others of its kind before it in the bitmap of k bits that starts at bit `at`; k where there is none.
+fn place_in(b: &[u8], at: usize, k: usize, v: bool, j: usize) -> usize
+    requires { ⌜ (at + k ≤ 8 * length (now b)) × (length (now b) ≤ mostIndex) ⌝ }
+    ensures { λ r. ⌜ r ≡ place v j (take k (drop at (unpack (now (b .entry))))) ⌝ }
+{
+    let from = at / 8;
+    let to = (at + k + 7) / 8;
+    bit_counts::place_of(&b[from..to], at % 8, k, v, j)
+}
+
+// What was found on a side of a node, on the way back: a place there becomes the place here.
+fn back(asked: Question, b: &[u8], at: usize, k: usize, one: bool, result: usize) -> usize
+    requires { ⌜ (at + k ≤ 8 * length (now b)) × (length (now b) ≤ mostIndex) ⌝ }
+    ensures { λ r. ⌜ r ≡ back asked one (take k (drop at (unpack (now (b .entry))))) result ⌝ }
+{
+    match asked {
+        Question::Select => place_in(b, at, k, one, result),
+        _ => result,
+    }
+}
+
+// Walks the bitmaps of k numbers below a string, from bit `at` on, with place or use i of those numbers in view.
+fn descend(
+    positions: &[u32; 47],
+    order: usize,
+    limit: u64,
+    v: wavelet::Spot,
+    k: usize,
+    b: &[u8],
+    at: usize,
+    asked: Question,
+    x: u32,
+    i: usize,
+) -> Found
+    requires { ⌜ Ready order limit v (now positions) (now b) at × InView asked i k ⌝ }
+    ensures { λ r. ⌜ Finds order limit v k (now (b .entry)) at asked x i r ⌝ }
+{
+    if !wavelet::is_node(order, limit, v) {
+        let result = reached(asked, v.number as usize, k, i);
+        return Found {
+            end: at,
+            result,
+            visits: v.depth,
+        };
+    }
+    let total = b.len() * 8;
+    if k > total - at {
+        return lost(total + 1);
+    }
+    let ones = wavelet_ends::ones_in(b, at, k);
+    let one = takes_one(asked, x, b, at, i, v.depth);
+    let start = wavelet_ends::start_of(positions, order, limit, v, k, ones, b, at, one);
+    if start > total {
+        return lost(start);
+    }
+    let side = wavelet::side(positions, order, v, one);
+    let count = count_on(one, k, ones);
+    let j = onward(asked, b, at, i, one);
+    let found = descend(positions, order, limit, side, count, b, start, asked, x, j);
+    if found.end > total {
+        return found;
+    }
+    let end = wavelet_ends::end_after(positions, order, limit, v, ones, b, found.end, one);
+    let result = back(asked, b, at, k, one, found.result);
+    Found {
+        end,
+        result,
+        ..found
+    }
+}
+
+// Walks the whole index for a question about place or use i, and about the number n if it asks for one: the checks that the questions share, and what they
+// go on with. Where n is no number of the alphabet, the walk still shows whether the bytes are an index.
+pub fn walk(
+    order: usize,
+    alphabet: u32,
+    len: usize,
+    b: &[u8],
+    asked: Question,
+    n: u32,
+    i: usize,
+) -> QuestionAnswer
+    ensures { λ r. ⌜ Walks order alphabet len (now (b .entry)) asked n i r ⌝ }
+{
+    let checked = wavelet::check(order, alphabet, len);
+    if let CountAnswer::Refused(r) = checked {
+        return QuestionAnswer::Refused(r);
+    }
+    if b.len() > wavelet::MOST_INDEX {
+        return QuestionAnswer::Refused(Refusal::NotAnIndex);
+    }
+    let positions = fibonacci::positions(order);
+    let limit = calls::wide(alphabet);
+    let x = wavelet::asked(&positions, order, limit, calls::wide(n));
+    let root = wavelet::root();
+    let place = calls::least(i, len);
+    let found = descend(&positions, order, limit, root, len, b, 0, asked, x, place);
+    if !wavelet_ends::is_exact(b, found.end) {
+        return QuestionAnswer::Refused(Refusal::NotAnIndex);
+    }
+    QuestionAnswer::Answered {
+        result: found.result,
+        visits: found.visits,
+    }
+}
