@@ -24,7 +24,7 @@ use Rattle.byte_table.specs.declared.Row.{Row}
 use Rattle.byte_table.specs.Table.{stem, trail, after, front, inside, byF, byF1, byF2, moved, rowOf, rowAt, Small}
 use Rattle.reading.specs.Reading.{fibonacci}
 use Rattle.reading.proofs.Reached.{Reached, reached-start, reached-open, reached-shut, reached-numbers, reached-end}
-use Rattle.reading.proofs.Checking.{Padding, padding-is, padding-not, contents-past, contents-rest, contents-good, Numbered, numbered-legal, numbered-large}
+use Rattle.reading.proofs.Checking.{Padding, padding-is, padding-not, contents-many, contents-past, contents-rest, contents-good, Numbered, numbered-legal, numbered-large}
 use Rattle.table_scan.specs.Answers.{Passes, faultAt}
 use Rattle.table_scan.proofs.Refusing.{none, refused-in}
 use Rattle.table_scan.proofs.Inside.{few-are, first-three, taken, coded-positive, open-parse, shut-parse}
@@ -201,6 +201,12 @@ module _ {limit : ℕ} {s : List ℕ} {i : ℕ} {row : List ℕ} {count len val 
       all-numbers : (later : List ℕ) × (numbers 3 (unpack s) ≡ (done ++ (number 3 ended ∷ within)) ++ later)
       all-numbers = let t = reached-numbers reached-next in (t .0, t .1 ∙ ap (λ (l : List ℕ). l ++ t .0) next-numbers)
 
+      -- it is one too many
+      pub walked-many : longest ≤ count → contents (fibonacci 3) limit s ≡ refused TooManyCodewords
+      walked-many f =
+          contents-many limit 3 s done (k .legal) (number 3 ended) (within ++ all-numbers .0) (all-numbers .1 ∙ append-assoc done (number 3 ended ∷ within) (all-numbers .0))
+          (omega (arith, done-long, k .most))
+
       -- n was found for its number, and of the numbers that end so many pass
       module _ (n : ℕ) (is : Numbered 3 (len + r .len) (val + v) n) (top : limit ≤ largest) (good : ℕ) (passes : Passes (isNumber limit n) limit (r .second) (r .third) good) where
         -- n is legal where the number is
@@ -243,6 +249,9 @@ module _ {limit : ℕ} {s : List ℕ} {i : ℕ} {row : List ℕ} {count len val 
           abbrev new : List ℕ
           new = n ∷ r .second ∷ r .third ∷ []
 
+          pub walked-room : length (sets row count new) ≡ 4098
+          walked-room = length-sets row count new ∙ k .room
+
           kept-is : count + r .count ≤ longest → take (count + r .count) (sets row count new) ≡ done ++ (number 3 ended ∷ within)
           kept-is f =
               taken row new count (r .count) (omega (arith, k .room, count-is)) (step .few .0)
@@ -262,7 +271,7 @@ module _ {limit : ℕ} {s : List ℕ} {i : ℕ} {row : List ℕ} {count len val 
                 most = f;
                 legal = rw next-numbers next-legal;
                 stored = kept-is f ∙ sym next-numbers;
-                room = length-sets row count new ∙ k .room;
+                room = walked-room;
                 pending =
                     subst (λ (l : ℕ). Pending (stem (rest p)) l (r .val)) (sym (ap (λ (r : Row). r .left) row-cut))
                     (subst (λ (v : ℕ). Pending (stem (rest p)) (length (stem (rest p))) v) (sym (ap (λ (r : Row). r .val) row-cut))

@@ -85,16 +85,19 @@ pub fn walk(
             len = held(end);
             val = sum;
         } else {
+            if count == calls::LONGEST {
+                return CountAnswer::Refused(Refusal::TooManyCodewords);
+            }
             let n = reading::number(firsts, 3, end, sum);
             let good = passing(n, r.second, r.third, limit);
             if good < 3 {
                 return CountAnswer::Refused(fault(count + good));
             }
-            if count + r.count > calls::LONGEST {
-                return CountAnswer::Refused(Refusal::TooManyCodewords);
-            }
             put(row, count, n, r.second, r.third);
             count += r.count;
+            if count > calls::LONGEST {
+                return CountAnswer::Refused(Refusal::TooManyCodewords);
+            }
             len = r.left;
             val = r.val;
         }

@@ -34,17 +34,13 @@ begun-none m limit b = record { taken = taken-none m limit b 0 (omega arith); ma
 
 module _ {m limit : ℕ} {b : List Bool} {bit count : ℕ} {row : List ℕ} (g : Begun m limit b bit count row) where
   -- another part
-  pub begun-more : (until : ℕ) (p : Part) → until ≤ longest → (s : Summed m limit b (record { bit = bit; count = count }) until p)
-      → Begun m limit b (p .bit) (p .count) (row ++ s .row)
-  begun-more until p h s =
+  pub begun-more : (most : ℕ) (p : Part) → count + most ≤ longest → (s : Summed m limit b bit most p)
+      → Begun m limit b (p .bit) (count + p .taken) (row ++ s .row)
+  begun-more most p h s =
       record {
         taken = taken-append m limit b 0 bit (p .bit) row (s .row) (g .taken) (s .taken);
         many = omega (arith, length-append row (s .row), g .many, s .many);
-        most =
-            elim (decLe count until) [
-              | yes l ↦ omega (arith, s .few l)
-              | no l ↦ omega (arith, s .many, ap length (s .none (omega arith)), g .most)
-            ];
+        most = omega (arith, s .few);
       }
 
   -- the bits of the numbers taken end where they were taken to

@@ -119,18 +119,18 @@ taken-more m limit b k e row t n p r h c is l =
 
 -- ## What a loop keeps
 
--- From bit k₀ on the numbers `row` were taken, count₀ having been before; the next bits are in a word, and where m ones begin in it is marked
-pub record Going (m limit : ℕ) (b : List Bool) (k₀ count₀ : ℕ) (row : List ℕ) (bit count left marks : ℕ) : Type 0 where
+-- From bit k₀ on the numbers `row` were taken, so many; the next bits are in a word, and where m ones begin in it is marked
+pub record Going (m limit : ℕ) (b : List Bool) (k₀ : ℕ) (row : List ℕ) (bit count left marks : ℕ) : Type 0 where
   pub taken : Taken m limit b k₀ bit row
-  pub many : count ≡ count₀ + length row
+  pub many : length row ≡ count
   pub ahead : Ahead b bit left
   pub marked : wordBits 64 marks ≡ starts m (wordBits 64 left)
   pub low : marks < 2 ^ 64
 
-module _ {m limit : ℕ} {b : List Bool} {k₀ count₀ : ℕ} {row : List ℕ} {bit count left marks : ℕ} (g : Going m limit b k₀ count₀ row bit count left marks) where
+module _ {m limit : ℕ} {b : List Bool} {k₀ : ℕ} {row : List ℕ} {bit count left marks : ℕ} (g : Going m limit b k₀ row bit count left marks) where
   -- the word is filled anew
   pub going-filled : (left' marks' : ℕ) → Ahead b bit left' → wordBits 64 marks' ≡ starts m (wordBits 64 left') → marks' < 2 ^ 64
-      → Going m limit b k₀ count₀ row bit count left' marks'
+      → Going m limit b k₀ row bit count left' marks'
   going-filled left' marks' a e l = record { taken = g .taken; many = g .many; ahead = a; marked = e; low = l }
 
   -- a codeword ends in it, and n was found for its number
@@ -157,7 +157,7 @@ module _ {m limit : ℕ} {b : List Bool} {k₀ count₀ : ℕ} {row : List ℕ} 
       pub going-short : len + m ≤ 47
       going-short = lookup.first-within m o len (same .1)
 
-      pub going-more : Going m limit b k₀ count₀ (row ++ (n ∷ [])) (bit + (len + m)) (count + 1) (left * 2 ^ (len + m) % 2 ^ 64) (marks * 2 ^ (len + m) % 2 ^ 64)
+      pub going-more : Going m limit b k₀ (row ++ (n ∷ [])) (bit + (len + m)) (count + 1) (left * 2 ^ (len + m) % 2 ^ 64) (marks * 2 ^ (len + m) % 2 ^ 64)
       going-more =
           let pos : 1 ≤ m = omega arith in
           let t : ℕ = len + m in

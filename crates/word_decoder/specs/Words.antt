@@ -1,8 +1,8 @@
 -- Codewords taken out of a string of bits, by words of 64 of them.
 use mathlib.Core.Path.{_≡_}
 use mathlib.Core.Bool.{Bool}
-use mathlib.Core.List.{List, [], _++_}
-use Prim.Native.Nat.{ℕ, _+_, _≤_}
+use mathlib.Core.List.{List, _++_}
+use Prim.Native.Nat.{ℕ, _≤_}
 use lib.ListN.{length, take, drop}
 use lib.Seq.{slice}
 use Rattle.fibonacci.specs.Code.{sum}
@@ -18,14 +18,13 @@ pub record Taken (m limit : ℕ) (b : List Bool) (k e : ℕ) (row : List ℕ) : 
   pub legal : Legal limit row
   pub within : e ≤ length b
 
--- Codewords were taken from a front of b on, as long as there were fewer than `until`, and their numbers summed
-pub record Summed (m limit : ℕ) (b : List Bool) (from : Front) (until : ℕ) (to : Part) : Type 0 where
+-- Codewords were taken from bit k of b on, so many at most, and their numbers summed
+pub record Summed (m limit : ℕ) (b : List Bool) (k most : ℕ) (p : Part) : Type 0 where
   pub row : List ℕ
-  pub taken : Taken m limit b (from .bit) (to .bit) row
-  pub many : to .count ≡ from .count + length row
-  pub total : to .sum ≡ sum row
-  pub few : from .count ≤ until → to .count ≤ until
-  pub none : until ≤ from .count → row ≡ []
+  pub taken : Taken m limit b k (p .bit) row
+  pub many : length row ≡ p .taken
+  pub few : p .taken ≤ most
+  pub total : p .sum ≡ sum row
 
 -- The codewords of a row were taken from the start of b on, up to a bit, so many
 pub record Begun (m limit : ℕ) (b : List Bool) (bit count : ℕ) (row : List ℕ) : Type 0 where

@@ -14,14 +14,15 @@ pub struct Front {
     pub count: usize,
 }
 
-// The same, with the sum of the numbers of a part.
+// A part of a row that was taken: up to which bit, how many numbers, and their sum.
 struct Part {
     bit: usize,
-    count: usize,
+    taken: usize,
     sum: u64,
 }
 
-// The same of a span: the sum of its numbers and of all, and the bit where its first place begins, or the last bit reached where that is before it.
+// How far codewords were taken, with what is told of a span: the sum of its numbers and of all, and the bit where its first place begins, or the last bit
+// reached where that is before it.
 pub struct Reach {
     pub bit: usize,
     pub count: usize,
@@ -30,50 +31,51 @@ pub struct Reach {
     pub start: usize,
 }
 
-// Takes codewords from where a front stands, as long as their numbers are legal, each ends in the next word, and there are fewer than `until`: how far it
-// came, and the sum of the numbers that it took. What stands then is for the scan by bits to judge. (Called in one place, it is compiled into it.)
+// Takes codewords from a bit on, as long as their numbers are legal, each ends in the next word, and there are fewer than `most`: how far it came, and the
+// sum of the numbers that it took. What stands then is for the scan by bits to judge. (Called in one place, it is compiled into it.)
 fn take_sum(
     values: &[u32; 1536],
     firsts: &[u32; 47],
     order: usize,
     s: &[u8],
     limit: u64,
-    from: Front,
-    until: usize,
+    from: usize,
+    most: usize,
 ) -> Part
-    requires { ⌜ Firsts order (now firsts) × (now values ≡ byteValues order) × (length (now s) ≤ mostBytes) × (limit ≤ largest) × (until ≤ longest) × (from .bit ≤ 8 * length (now s)) × (from .count ≤ longest) ⌝ }
-    ensures { λ r. ⌜ Summed order limit (unpack (now (s .entry))) from until r ⌝ }
+    requires { ⌜ Firsts order (now firsts) × (now values ≡ byteValues order) × (length (now s) ≤ mostBytes) × (limit ≤ largest) × (most ≤ longest) × (from ≤ 8 * length (now s)) ⌝ }
+    ensures { λ r. ⌜ Summed order limit (unpack (now (s .entry))) from most r ⌝ }
 {
-    let mut bit = from.bit;
-    let mut count = from.count;
+    let mut bit = from;
+    let mut taken: usize = 0;
     let mut sum: u64 = 0;
     let first = word_windows::ahead(s, order, bit);
     let mut left = first.left;
     let mut starts = first.starts;
     if starts == 0 {
-        return Part { bit, count, sum };
+        return Part { bit, taken, sum };
     }
-    while count < until {
+    while taken < most {
         let len = u64::leading_zeros(starts) as usize;
         let n = word_windows::number(values, firsts, order, left, len);
+        let size = len + order;
         if !calls::is_number(n, limit) {
-            return Part { bit, count, sum };
+            return Part { bit, taken, sum };
         }
         sum += n;
-        count += 1;
-        bit += len + order;
-        starts = starts << (len + order);
-        left = left << (len + order);
+        taken += 1;
+        bit += size;
+        starts = starts << size;
+        left = left << size;
         if starts == 0 {
             let next = word_windows::ahead(s, order, bit);
             left = next.left;
             starts = next.starts;
             if starts == 0 {
-                return Part { bit, count, sum };
+                return Part { bit, taken, sum };
             }
         }
     }
-    Part { bit, count, sum }
+    Part { bit, taken, sum }
 }
 
 // Where the part of a row ends that a place is in: before a span, in it, or behind it.
@@ -129,14 +131,14 @@ pub fn take_span(
     let mut start: usize = 0;
     while count < calls::LONGEST {
         let until = part_end(from, to, count);
-        let part = Front { bit, count };
-        let next = take_sum(&values, firsts, order, s, limit, part, until);
-        sum += counted(next.sum, from, to, count);
-        all += next.sum;
-        start = begins(start, from, next.count, next.bit);
-        bit = next.bit;
-        count = next.count;
-        if count < until {
+        let most = until - count;
+        let part = take_sum(&values, firsts, order, s, limit, bit, most);
+        sum += counted(part.sum, from, to, count);
+        all += part.sum;
+        bit = part.bit;
+        count += part.taken;
+        start = begins(start, from, count, bit);
+        if part.taken < most {
             break;
         }
     }
@@ -169,14 +171,15 @@ pub fn take_row(firsts: &[u32; 47], order: usize, s: &[u8], limit: u64, row: &mu
     while count < most {
         let len = u64::leading_zeros(starts) as usize;
         let n = word_windows::number(&values, firsts, order, left, len);
+        let size = len + order;
         if !calls::is_number(n, limit) {
             return Front { bit, count };
         }
         row[count] = n as u32;
         count += 1;
-        bit += len + order;
-        starts = starts << (len + order);
-        left = left << (len + order);
+        bit += size;
+        starts = starts << size;
+        left = left << size;
         if starts == 0 {
             let next = word_windows::ahead(s, order, bit);
             left = next.left;

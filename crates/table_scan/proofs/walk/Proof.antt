@@ -6,7 +6,7 @@ use lib.ListN.{length, getD, take}
 use borrow.Author.Needs.{needs}
 use borrow.Author.Tests.{not-true, not-false}
 use Rattle.calls.specs.Calls.{accepted, refused}
-use Rattle.table_scan.proofs.Walking.{Walked, Step, walked-start, walked-state, walked-open, walked-fault, walked-number, walked-past, walked-shut, walked-padding, walked-rest}
+use Rattle.table_scan.proofs.Walking.{Walked, Step, walked-start, walked-state, walked-open, walked-many, walked-fault, walked-number, walked-past, walked-room, walked-shut, walked-padding, walked-rest}
 use Rattle.table_scan.proofs.walk.Statement.{statement}
 use Rattle.table_scan.proofs.walk.Tie as tie
 
@@ -65,9 +65,15 @@ add-sum c =
 held-requires : tie.Need-held-requires Inv-loop μ-loop
 held-requires c κs = search needs
 
+returns : tie.Need-returns Inv-loop μ-loop
+returns c =
+    let m = c .before .before .before in
+    let k = m .before .before .before .before .before .loop .inv .2 in
+    rw (walked-many k (step m) (c .before .if1 .left) (omega (arith, c .if2 .taken))) (refl, tt, k .room)
+
 number-requires : tie.Need-number-requires Inv-loop μ-loop
 number-requires c κs =
-    let m = c .before .before in
+    let m = c .before .before .before in
     let l = m .before .before .before .before .before .loop in
     let z = m .before .before .before .before .before .before .before in
     (z .pre .0 .firsts-are, omega (arith, l .inv .2 .small, m .moved .ensures .1, z .pre .1))
@@ -76,38 +82,43 @@ passing-requires : tie.Need-passing-requires Inv-loop μ-loop
 passing-requires c κs = search needs
 
 add-fault : tie.Need-add-fault Inv-loop μ-loop
-add-fault c = omega (arith, c .before .before .before .before .before .before .before .before .before .before .loop .inv .2 .most)
+add-fault c = omega (arith, c .before .before .before .before .before .before .before .before .before .before .before .loop .inv .2 .most)
 
 fault-requires : tie.Need-fault-requires Inv-loop μ-loop
 fault-requires c κs = search needs
 
-returns : tie.Need-returns Inv-loop μ-loop
-returns c =
-    let a = c .before .before in
-    let m = a .before .before .before .before in
-    let k = m .before .before .before .before .before .loop .inv .2 in
-    rw (walked-fault k (step m) (a .before .before .if1 .left) _ (a .before .number .ensures) (m .before .before .before .before .before .before .before .pre .2) _ (a .passing .ensures) (c .before .if2 .taken)) (ap refused (c .fault .ensures), tt, k .room)
-
-add-if3 : tie.Need-add-if3 Inv-loop μ-loop
-add-if3 c = omega (arith, c .before .before .before .before .before .before .before .before .before .before .before .loop .inv .2 .most, c .before .before .before .before .before .before .before .before .look-up .ensures .1 .0)
-
 returns-2 : tie.Need-returns-2 Inv-loop μ-loop
 returns-2 c =
-    let a = c .before .before .before in
-    let m = a .before .before .before .before in
+    let a = c .before .before in
+    let e = a .before .before .before in
+    let m = e .before .before in
     let k = m .before .before .before .before .before .loop .inv .2 in
-    rw (walked-past k (step m) (a .before .before .if1 .left) _ (a .before .number .ensures) (m .before .before .before .before .before .before .before .pre .2) _ (a .passing .ensures) (c .before .before .if2 .left) (c .if3 .taken)) (refl, tt, k .room)
+    rw (walked-fault k (step m) (e .if1 .left) _ (a .before .number .ensures) (m .before .before .before .before .before .before .before .pre .2) _ (a .passing .ensures) (c .before .if3 .taken)) (ap refused (c .fault .ensures), tt, k .room)
 
 put-requires : tie.Need-put-requires Inv-loop μ-loop
 put-requires c κs =
-    let a = c .before .before .before .before in
-    let m = a .before .before .before .before in
+    let a = c .before .before in
+    let e = a .before .before .before in
+    let m = e .before .before in
     let k = m .before .before .before .before .before .loop .inv .2 in
-    let n = walked-number k (step m) (a .before .before .if1 .left) _ (a .before .number .ensures) (m .before .before .before .before .before .before .before .pre .2) _ (a .passing .ensures) (c .before .before .before .if2 .left) in
-    (omega (arith, c .before .if3 .left, a .before .before .if1 .left), k .room, n)
+    let n = walked-number k (step m) (e .if1 .left) _ (a .before .number .ensures) (m .before .before .before .before .before .before .before .pre .2) _ (a .passing .ensures) (c .before .if3 .left) in
+    (omega (arith, a .before .before .if2 .left, k .most), k .room, n)
 
 add-count : tie.Need-add-count Inv-loop μ-loop
-add-count c = omega (arith, c .before .before .before .if3 .left)
+add-count c =
+    let m = c .before .before .before .before .before .before .before .before .before in
+    omega (arith, m .before .before .before .before .before .loop .inv .2 .most, m .before .before .look-up .ensures .1 .0)
+
+returns-3 : tie.Need-returns-3 Inv-loop μ-loop
+returns-3 c =
+    let a = c .before .before .before .before .before in
+    let e = a .before .before .before in
+    let m = e .before .before in
+    let k = m .before .before .before .before .before .loop .inv .2 in
+    let all = c .before .before .before .before .if3 .left in
+    let top = m .before .before .before .before .before .before .before .pre .2 in
+    rw (walked-past k (step m) (e .if1 .left) _ (a .before .number .ensures) top _ (a .passing .ensures) all (c .if4 .taken), c .before .before .put .ensures)
+    (refl, tt, walked-room k (step m) (e .if1 .left) _ (a .before .number .ensures) top _ (a .passing .ensures) all)
 
 add-i : tie.Need-add-i Inv-loop μ-loop
 add-i c = search needs
@@ -130,25 +141,25 @@ loop-again c =
     (λ w. (
       omega arith,
       refl,
-      rw (w .9, w .10, w .11, w .12, w .7 .ensures)
-          (walked-shut (l .inv .2) (step m) (w .0 .left) (w .1 .result) (w .1 .ensures) (m .before .before .before .before .before .before .before .pre .2) _ (w .2 .ensures) (w .3 .left) (w .5 .left)),
+      rw (w .9, w .10, w .11, w .12, w .6 .ensures)
+          (walked-shut (l .inv .2) (step m) (w .0 .left) (w .2 .result) (w .2 .ensures) (m .before .before .before .before .before .before .before .pre .2) _ (w .3 .ensures) (w .4 .left) (w .8 .left)),
     ))
     (c .if1 .came)
 
 is-padding-requires : tie.Need-is-padding-requires Inv-loop μ-loop
 is-padding-requires c κs = search needs
 
-returns-3 : tie.Need-returns-3 Inv-loop μ-loop
-returns-3 c =
-    let o = c .before .before in
-    let l = o .before .loop in
-    rw (walked-rest (l .inv .2) (o .loop-test .left) (sym (c .before .is-padding .ensures) ∙ not-true _ (c .if4 .taken))) (refl, tt, l .inv .2 .room)
-
 returns-4 : tie.Need-returns-4 Inv-loop μ-loop
 returns-4 c =
     let o = c .before .before in
     let l = o .before .loop in
-    let t = walked-padding (l .inv .2) (o .loop-test .left) (sym (c .before .is-padding .ensures) ∙ not-false _ (c .if4 .left)) in
+    rw (walked-rest (l .inv .2) (o .loop-test .left) (sym (c .before .is-padding .ensures) ∙ not-true _ (c .if5 .taken))) (refl, tt, l .inv .2 .room)
+
+returns-5 : tie.Need-returns-5 Inv-loop μ-loop
+returns-5 c =
+    let o = c .before .before in
+    let l = o .before .loop in
+    let t = walked-padding (l .inv .2) (o .loop-test .left) (sym (c .before .is-padding .ensures) ∙ not-false _ (c .if5 .left)) in
     rw (t .0) (ap accepted (sym (t .2)), ap (λ (n : ℕ). take n (l .row)) (t .2) ∙ t .1, l .inv .2 .room)
 
 pub walk-spec : {M : Type 1} → statement M
@@ -166,18 +177,18 @@ walk-spec =
     moved-requires
     add-sum
     held-requires
+    returns
     number-requires
     passing-requires
     add-fault
     fault-requires
-    returns
-    add-if3
     returns-2
     put-requires
     add-count
+    returns-3
     add-i
     loop-less
     loop-again
     is-padding-requires
-    returns-3
-    returns-4)
+    returns-4
+    returns-5)

@@ -20,7 +20,7 @@ use Rattle.word_decoder.proofs.take_row.Tie as tie
 
 abbrev Inv-loop : tie.InvT-loop
 Inv-loop firsts order s limit row₀ values most bit₀ count₀ left₀ starts₀ row bit count left starts =
-    Going order limit (unpack s) 0 0 (take count row) bit count left starts × (length row ≡ length row₀) × (count ≤ most) × (most ≡ min (length row₀) longest) × (1 ≤ starts)
+    Going order limit (unpack s) 0 (take count row) bit count left starts × (length row ≡ length row₀) × (count ≤ most) × (most ≡ min (length row₀) longest) × (1 ≤ starts)
 
 abbrev μ-loop : tie.MeasureT-loop
 μ-loop firsts order s limit row₀ values most bit₀ count₀ left₀ starts₀ row bit count left starts = 8 * length s - bit
@@ -59,7 +59,7 @@ module _ (c : tie.Else2 Inv-loop μ-loop) where
   room : at .loop .count < length (at .loop .row)
   room = omega (arith, at .loop .inv .1, inside .loop-test .taken, at .loop .inv .3)
 
-  more : Going (start .args .order) (start .args .limit) (unpack (start .args .s .now)) 0 0
+  more : Going (start .args .order) (start .args .limit) (unpack (start .args .s .now)) 0
       (take (at .loop .count + 1) (set (at .loop .row) (at .loop .count) n)) (at .loop .bit + size) (at .loop .count + 1)
       (at .loop .left * 2 ^ size % 2 ^ 64) (at .loop .starts * 2 ^ size % 2 ^ 64)
   more =
@@ -86,7 +86,7 @@ loop-holds c =
     let e = c .before .ahead .ensures in (
       record {
         taken = taken-none _ _ _ _ (omega arith);
-        many = omega arith;
+        many = refl;
         ahead = e .0;
         marked = e .1;
         low = e .2;
@@ -107,6 +107,9 @@ number-requires c κs =
     let p = f .before .before .before .before .pre in
     (p .0, f .fill .ensures, going-zero (l .loop .inv .0) (p .0 .0) (l .loop .inv .4))
 
+add-size : tie.Need-add-size Inv-loop μ-loop
+add-size c = omega (arith, leading-le 64 (c .before .before .before .loop .starts), c .before .before .before .before .before .before .before .before .before .before .before .pre .0 .0)
+
 is-number-requires : tie.Need-is-number-requires Inv-loop μ-loop
 is-number-requires c κs = search needs
 
@@ -116,7 +119,7 @@ same-length c = let v = c .before .before .before .before .before .loop .inv in 
 returns-2 : tie.Need-returns-2 Inv-loop μ-loop
 returns-2 c =
     let v = c .before .before .before .before .before .loop .inv in
-    (record { taken = v .0 .taken; many = omega (arith, v .0 .many); most = omega (arith, v .2, v .3) }, v .1)
+    (record { taken = v .0 .taken; many = v .0 .many; most = omega (arith, v .2, v .3) }, v .1)
 
 cast-row : tie.Need-cast-row Inv-loop μ-loop
 cast-row c = omega (arith, number-is _ _ (passed c), start c .pre .2)
@@ -131,22 +134,13 @@ add-count : tie.Need-add-count Inv-loop μ-loop
 add-count c = omega (arith, inside c .loop-test .taken, at c .loop .inv .3)
 
 add-bit : tie.Need-add-bit Inv-loop μ-loop
-add-bit c = omega (arith, short c)
-
-add-bit-2 : tie.Need-add-bit-2 Inv-loop μ-loop
-add-bit-2 c = omega (arith, within c, start c .pre .1)
-
-add-left : tie.Need-add-left Inv-loop μ-loop
-add-left c = omega (arith, short c)
-
-shl-left : tie.Need-shl-left Inv-loop μ-loop
-shl-left c = omega (arith, short c)
-
-add-starts : tie.Need-add-starts Inv-loop μ-loop
-add-starts c = omega (arith, short c)
+add-bit c = omega (arith, within c, start c .pre .1)
 
 shl-starts : tie.Need-shl-starts Inv-loop μ-loop
 shl-starts c = omega (arith, short c)
+
+shl-left : tie.Need-shl-left Inv-loop μ-loop
+shl-left c = omega (arith, short c)
 
 ahead-requires-2 : tie.Need-ahead-requires-2 Inv-loop μ-loop
 ahead-requires-2 c κs = (start (c .before) .pre .0 .0, within (c .before))
@@ -158,7 +152,7 @@ returns-3 : tie.Need-returns-3 Inv-loop μ-loop
 returns-3 c =
     let e = c .before .before .before in
     let g = more e in
-    (record { taken = g .taken; many = omega (arith, g .many); most = omega (arith, inside e .loop-test .taken, at e .loop .inv .3) }, sized e)
+    (record { taken = g .taken; many = g .many; most = omega (arith, inside e .loop-test .taken, at e .loop .inv .3) }, sized e)
 
 loop-less : tie.Need-loop-less Inv-loop μ-loop
 loop-less c = let e = c .before .before .before in omega (arith, within e, start e .pre .0 .0)
@@ -183,7 +177,7 @@ same-length-3 c = let v = c .before .loop .inv in v .1
 returns-4 : tie.Need-returns-4 Inv-loop μ-loop
 returns-4 c =
     let v = c .before .loop .inv in
-    (record { taken = v .0 .taken; many = omega (arith, v .0 .many); most = omega (arith, v .2, v .3) }, v .1)
+    (record { taken = v .0 .taken; many = v .0 .many; most = omega (arith, v .2, v .3) }, v .1)
 
 pub take-row-spec : {M : Type 1} → statement M
 take-row-spec =
@@ -198,6 +192,7 @@ take-row-spec =
     loop-holds
     cast-len
     number-requires
+    add-size
     is-number-requires
     same-length
     returns-2
@@ -206,10 +201,7 @@ take-row-spec =
     slice-write-row
     add-count
     add-bit
-    add-bit-2
-    add-starts
     shl-starts
-    add-left
     shl-left
     ahead-requires-2
     same-length-2

@@ -6,6 +6,7 @@ use borrow.Author.Needs.{needs}
 use Rattle.bits.specs.Bits.{unpack}
 use Rattle.bits.proofs.Bytes.{unpack-length}
 use Rattle.calls.specs.Limits.{longest}
+use Rattle.word_decoder.specs.declared.Part.{Part}
 use Rattle.word_decoder.specs.Words.{Begun, Spanned}
 use Rattle.word_decoder.proofs.Spans.{begun-more, spanned-none, spanned-most, spanned-more}
 use Rattle.word_decoder.proofs.take_span.Statement.{statement}
@@ -26,33 +27,38 @@ module _ (c : tie.After-counted Inv-loop μ-loop) where
   abbrev start : tie.Start Inv-loop μ-loop
   start = at .before .before .before .before
 
+  abbrev until : ℕ
+  until = c .before .before .before .part-end .result
+
+  abbrev part : Part
+  part = c .before .take-sum .result
+
   abbrev more : List ℕ
   more = c .before .take-sum .ensures .row
 
-  begun : Begun (start .args .order) (start .args .limit) (unpack (start .args .s .now)) (c .before .take-sum .result .bit) (c .before .take-sum .result .count) (at .loop .inv .row ++ more)
-  begun = begun-more (at .loop .inv .begun) (c .before .before .before .part-end .result) (c .before .take-sum .result) (c .before .before .before .part-end .ensures .0) (c .before .take-sum .ensures)
+  begun : Begun (start .args .order) (start .args .limit) (unpack (start .args .s .now)) (part .bit) (at .loop .count + part .taken) (at .loop .inv .row ++ more)
+  begun = begun-more (at .loop .inv .begun) (until - at .loop .count) part (omega (arith, c .before .before .before .part-end .ensures)) (c .before .take-sum .ensures)
 
   -- as far as the part goes
-  few : c .before .take-sum .result .count ≤ c .before .before .before .part-end .result
-  few = c .before .take-sum .ensures .few (omega (arith, c .before .before .before .part-end .ensures .1 (c .before .before .before .before .loop-test .taken)))
+  few : at .loop .count + part .taken ≤ until
+  few = omega (arith, c .before .take-sum .ensures .few, c .before .before .before .part-end .ensures .1 (c .before .before .before .before .loop-test .taken))
 
-  most : (at .loop .sum + c .counted .result ≤ 2 ^ 60) × (at .loop .all + c .before .take-sum .result .sum ≤ 2 ^ 60)
+  most : (at .loop .sum + c .counted .result ≤ 2 ^ 60) × (at .loop .all + part .sum ≤ 2 ^ 60)
   most =
       let m = spanned-most (at .loop .inv) (start .pre .2) _ _ more begun in
       (omega (arith, m, c .counted .ensures .3, c .before .take-sum .ensures .total), omega (arith, m .1, c .before .take-sum .ensures .total))
 
 -- what is known then
 reached : (c : tie.After-begins Inv-loop μ-loop)
-    → let e = c .before .before in
-    let next = e .before .take-sum .result in
+    → let e = c .before .before .before in
     Spanned (start e .args .order) (start e .args .limit) (start e .args .from) (start e .args .to) (unpack (start e .args .s .now))
-    (record { bit = next .bit; count = next .count; sum = at e .loop .sum + e .counted .result; all = at e .loop .all + next .sum; start = c .begins .result })
+    (record { bit = part e .bit; count = at e .loop .count + part e .taken; sum = at e .loop .sum + e .counted .result; all = at e .loop .all + part e .sum; start = c .begins .result })
 reached c =
-    let e = c .before .before in
+    let e = c .before .before .before in
     let p = e .before .before .before .part-end .ensures in
     let n = e .counted .ensures in
     let t = e .before .take-sum .ensures .total in
-    spanned-more (at e .loop .inv) (e .before .before .before .part-end .result) (more e) (e .counted .result) _ (begun e) (few e) (p .2) (p .3)
+    spanned-more (at e .loop .inv) (until e) (more e) (e .counted .result) _ (begun e) (few e) (p .2) (p .3)
     (λ f g. n .0 f g ∙ t) (n .1) (n .2) refl (ap (λ (x : ℕ). at e .loop .all + x) t) (c .begins .ensures)
 
 fill-requires : tie.Need-fill-requires Inv-loop μ-loop
@@ -64,13 +70,15 @@ loop-holds c = spanned-none _ _ _ _ _
 part-end-requires : tie.Need-part-end-requires Inv-loop μ-loop
 part-end-requires c κs = search needs
 
+sub-most : tie.Need-sub-most Inv-loop μ-loop
+sub-most c = omega (arith, c .part-end .ensures .1 (c .before .loop-test .taken))
+
 take-sum-requires : tie.Need-take-sum-requires Inv-loop μ-loop
 take-sum-requires c κs =
     let l = c .before .before .before in
     let start = l .before .before .before .before in
     let p = start .pre in
-    let g = l .loop .inv .begun in
-    (p .0, l .before .fill .ensures, p .1, p .2, c .before .part-end .ensures .0, omega (arith, g .taken .within, unpack-length (start .args .s .now)), g .most)
+    (p .0, l .before .fill .ensures, p .1, p .2, omega (arith, c .before .part-end .ensures .0), omega (arith, l .loop .inv .begun .taken .within, unpack-length (start .args .s .now)))
 
 counted-requires : tie.Need-counted-requires Inv-loop μ-loop
 counted-requires c κs = search needs
@@ -81,22 +89,26 @@ add-sum c = omega (arith, most c)
 add-all : tie.Need-add-all Inv-loop μ-loop
 add-all c = omega (arith, most (c .before))
 
+add-count : tie.Need-add-count Inv-loop μ-loop
+add-count c = let e = c .before .before in omega (arith, few e, e .before .before .before .part-end .ensures .0)
+
 begins-requires : tie.Need-begins-requires Inv-loop μ-loop
 begins-requires c κs = search needs
 
 loop-less : tie.Need-loop-less Inv-loop μ-loop
 loop-less c =
-    let e = c .before .before .before in
-    omega (arith, c .if1 .left, e .before .before .before .part-end .ensures .1 (e .before .before .before .before .loop-test .taken), e .before .before .before .before .loop-test .taken)
+    let e = c .before .before .before .before .before in
+    let test = e .before .before .before .before .loop-test .taken in
+    omega (arith, c .if1 .left, e .before .before .before .part-end .ensures .1 test, test)
 
 loop-again : tie.Need-loop-again Inv-loop μ-loop
-loop-again c = reached (c .before)
+loop-again c = reached (c .before .before)
 
 returns : tie.Need-returns Inv-loop μ-loop
 returns c = c .before .loop .inv
 
 returns-2 : tie.Need-returns-2 Inv-loop μ-loop
-returns-2 c = reached (c .before)
+returns-2 c = reached (c .before .before)
 
 pub take-span-spec : {M : Type 1} → statement M
 take-span-spec =
@@ -107,10 +119,12 @@ take-span-spec =
     fill-requires
     loop-holds
     part-end-requires
+    sub-most
     take-sum-requires
     counted-requires
     add-sum
     add-all
+    add-count
     begins-requires
     loop-less
     loop-again

@@ -18,12 +18,11 @@ use Rattle.word_decoder.proofs.take_sum.Statement.{statement}
 use Rattle.word_decoder.proofs.take_sum.Tie as tie
 
 abbrev Inv-loop : tie.InvT-loop
-Inv-loop values firsts order s limit until bit₀ count₀ total₀ left₀ starts₀ bit count total left starts =
-    (row : List ℕ) × Going order limit (unpack s) bit₀ count₀ row bit count left starts × (total ≡ sum row) × (total ≤ largest * length row)
-    × (count₀ ≤ until → count ≤ until) × (until ≤ count₀ → row ≡ []) × (1 ≤ starts)
+Inv-loop values firsts order s limit from most bit₀ taken₀ total₀ left₀ starts₀ bit taken total left starts =
+    (row : List ℕ) × Going order limit (unpack s) from row bit taken left starts × (total ≡ sum row) × (total ≤ largest * length row) × (taken ≤ most) × (1 ≤ starts)
 
 abbrev μ-loop : tie.MeasureT-loop
-μ-loop values firsts order s limit until bit₀ count₀ total₀ left₀ starts₀ bit count total left starts = 8 * length s - bit
+μ-loop values firsts order s limit from most bit₀ taken₀ total₀ left₀ starts₀ bit taken total left starts = 8 * length s - bit
 
 -- the bits end with the bytes
 end : (s : List ℕ) (k : ℕ) → k ≤ length (unpack s) → k ≤ 8 * length s
@@ -51,14 +50,14 @@ module _ (c : tie.Else2 Inv-loop μ-loop) where
   size = leadingZeros 64 (at .loop .starts) + start .args .order
 
   within : at .loop .bit + size ≤ 8 * length (start .args .s .now)
-  within = end (start .args .s .now) _ (going-within (at .loop .inv .1) (start .pre .0 .0) (at .loop .inv .6))
+  within = end (start .args .s .now) _ (going-within (at .loop .inv .1) (start .pre .0 .0) (at .loop .inv .5))
 
   short : size ≤ 47
-  short = going-short (at .loop .inv .1) (start .pre .0 .0) (at .loop .inv .6) n (c .before .before .number .ensures .0) (passed c) (start .pre .3)
+  short = going-short (at .loop .inv .1) (start .pre .0 .0) (at .loop .inv .5) n (c .before .before .number .ensures .0) (passed c) (start .pre .3)
 
-  more : Going (start .args .order) (start .args .limit) (unpack (start .args .s .now)) (start .args .from .bit) (start .args .from .count)
-      (at .loop .inv .0 ++ (n ∷ [])) (at .loop .bit + size) (at .loop .count + 1) (at .loop .left * 2 ^ size % 2 ^ 64) (at .loop .starts * 2 ^ size % 2 ^ 64)
-  more = going-more (at .loop .inv .1) (start .pre .0 .0) (at .loop .inv .6) n (c .before .before .number .ensures .0) (passed c) (start .pre .3)
+  more : Going (start .args .order) (start .args .limit) (unpack (start .args .s .now)) (start .args .from)
+      (at .loop .inv .0 ++ (n ∷ [])) (at .loop .bit + size) (at .loop .taken + 1) (at .loop .left * 2 ^ size % 2 ^ 64) (at .loop .starts * 2 ^ size % 2 ^ 64)
+  more = going-more (at .loop .inv .1) (start .pre .0 .0) (at .loop .inv .5) n (c .before .before .number .ensures .0) (passed c) (start .pre .3)
 
   summed : at .loop .sum + n ≡ sum (at .loop .inv .0 ++ (n ∷ []))
   summed = omega (arith, sum-snoc (at .loop .inv .0) n, at .loop .inv .2)
@@ -66,12 +65,8 @@ module _ (c : tie.Else2 Inv-loop μ-loop) where
   little : at .loop .sum + n ≤ largest * length (at .loop .inv .0 ++ (n ∷ []))
   little = omega (arith, length-append (at .loop .inv .0) (n ∷ []), at .loop .inv .3, number-is _ _ (passed c), start .pre .3)
 
-  few : (start .args .from .count ≤ start .args .until → at .loop .count + 1 ≤ start .args .until)
-      × (start .args .until ≤ start .args .from .count → at .loop .inv .0 ++ (n ∷ []) ≡ [])
-  few = (
-    λ h. omega (arith, inside .loop-test .taken),
-    λ h. absurd (omega (arith, inside .loop-test .taken, at .loop .inv .1 .many)),
-  )
+  few : at .loop .taken + 1 ≤ start .args .most
+  few = omega (arith, inside .loop-test .taken)
 
 ahead-requires : tie.Need-ahead-requires Inv-loop μ-loop
 ahead-requires c κs = (c .before .pre .0 .0, c .before .pre .5)
@@ -82,10 +77,9 @@ returns c =
     record {
       row = [];
       taken = taken-none _ _ _ _ (omega (arith, unpack-length (z .args .s .now), z .pre .5));
-      many = omega arith;
+      many = refl;
+      few = omega arith;
       total = refl;
-      few = λ h. h;
-      none = λ h. refl;
     }
 
 loop-holds : tie.Need-loop-holds Inv-loop μ-loop
@@ -95,15 +89,14 @@ loop-holds c =
       [],
       record {
         taken = taken-none _ _ _ _ (omega (arith, unpack-length (z .args .s .now), z .pre .5));
-        many = omega arith;
+        many = refl;
         ahead = e .0;
         marked = e .1;
         low = e .2;
       },
       refl,
       omega arith,
-      λ h. h,
-      λ h. refl,
+      omega arith,
       omega (arith, c .if1 .left),
     )
 
@@ -113,7 +106,10 @@ cast-len c = omega (arith, leading-le 64 (c .before .loop .starts))
 number-requires : tie.Need-number-requires Inv-loop μ-loop
 number-requires c κs =
     let p = c .before .before .before .before .before .pre in
-    (p .0, p .1, going-zero (c .before .loop .inv .1) (p .0 .0) (c .before .loop .inv .6))
+    (p .0, p .1, going-zero (c .before .loop .inv .1) (p .0 .0) (c .before .loop .inv .5))
+
+add-size : tie.Need-add-size Inv-loop μ-loop
+add-size c = omega (arith, leading-le 64 (c .before .before .loop .starts), c .before .before .before .before .before .before .pre .0 .0)
 
 is-number-requires : tie.Need-is-number-requires Inv-loop μ-loop
 is-number-requires c κs = search needs
@@ -121,31 +117,22 @@ is-number-requires c κs = search needs
 returns-2 : tie.Need-returns-2 Inv-loop μ-loop
 returns-2 c =
     let v = c .before .before .before .before .loop .inv in
-    record { row = v .0; taken = v .1 .taken; many = v .1 .many; total = v .2; few = v .4; none = v .5 }
+    record { row = v .0; taken = v .1 .taken; many = v .1 .many; few = v .4; total = v .2 }
 
 add-sum : tie.Need-add-sum Inv-loop μ-loop
 add-sum c = omega (arith, at c .loop .inv .3, at c .loop .inv .1 .many, inside c .loop-test .taken, number-is _ _ (passed c), start c .pre)
 
-add-count : tie.Need-add-count Inv-loop μ-loop
-add-count c = omega (arith, inside c .loop-test .taken, start c .pre)
+add-taken : tie.Need-add-taken Inv-loop μ-loop
+add-taken c = omega (arith, inside c .loop-test .taken, start c .pre)
 
 add-bit : tie.Need-add-bit Inv-loop μ-loop
-add-bit c = omega (arith, short c)
-
-add-bit-2 : tie.Need-add-bit-2 Inv-loop μ-loop
-add-bit-2 c = omega (arith, within c, start c .pre .2)
-
-add-left : tie.Need-add-left Inv-loop μ-loop
-add-left c = omega (arith, short c)
-
-shl-left : tie.Need-shl-left Inv-loop μ-loop
-shl-left c = omega (arith, short c)
-
-add-starts : tie.Need-add-starts Inv-loop μ-loop
-add-starts c = omega (arith, short c)
+add-bit c = omega (arith, within c, start c .pre .2)
 
 shl-starts : tie.Need-shl-starts Inv-loop μ-loop
 shl-starts c = omega (arith, short c)
+
+shl-left : tie.Need-shl-left Inv-loop μ-loop
+shl-left c = omega (arith, short c)
 
 ahead-requires-2 : tie.Need-ahead-requires-2 Inv-loop μ-loop
 ahead-requires-2 c κs = (start (c .before) .pre .0 .0, within (c .before))
@@ -153,7 +140,7 @@ ahead-requires-2 c κs = (start (c .before) .pre .0 .0, within (c .before))
 returns-3 : tie.Need-returns-3 Inv-loop μ-loop
 returns-3 c =
     let e = c .before .before .before in
-    record { row = _; taken = more e .taken; many = more e .many; total = summed e; few = few e .0; none = few e .1 }
+    record { row = _; taken = more e .taken; many = more e .many; few = few e; total = summed e }
 
 loop-less : tie.Need-loop-less Inv-loop μ-loop
 loop-less c = let e = c .before .before .before in omega (arith, within e, start e .pre .0 .0)
@@ -162,18 +149,18 @@ loop-again : tie.Need-loop-again Inv-loop μ-loop
 loop-again c =
     let e = c .before .before .before in
     let a = c .before .ahead2 .ensures in
-    (_, going-filled (more e) _ _ (a .0) (a .1) (a .2), summed e, little e, few e .0, few e .1, omega (arith, c .if4 .left))
+    (_, going-filled (more e) _ _ (a .0) (a .1) (a .2), summed e, little e, few e, omega (arith, c .if4 .left))
 
 loop-less-2 : tie.Need-loop-less-2 Inv-loop μ-loop
 loop-less-2 c = omega (arith, within (c .before), start (c .before) .pre .0 .0)
 
 loop-again-2 : tie.Need-loop-again-2 Inv-loop μ-loop
-loop-again-2 c = let e = c .before in (_, more e, summed e, little e, few e .0, few e .1, omega (arith, c .if3 .left))
+loop-again-2 c = let e = c .before in (_, more e, summed e, little e, few e, omega (arith, c .if3 .left))
 
 returns-4 : tie.Need-returns-4 Inv-loop μ-loop
 returns-4 c =
     let v = c .before .loop .inv in
-    record { row = v .0; taken = v .1 .taken; many = v .1 .many; total = v .2; few = v .4; none = v .5 }
+    record { row = v .0; taken = v .1 .taken; many = v .1 .many; few = v .4; total = v .2 }
 
 pub take-sum-spec : {M : Type 1} → statement M
 take-sum-spec =
@@ -186,15 +173,13 @@ take-sum-spec =
     loop-holds
     cast-len
     number-requires
+    add-size
     is-number-requires
     returns-2
     add-sum
-    add-count
+    add-taken
     add-bit
-    add-bit-2
-    add-starts
     shl-starts
-    add-left
     shl-left
     ahead-requires-2
     returns-3
