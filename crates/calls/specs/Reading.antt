@@ -38,6 +38,6 @@ contents c limit s =
 unfoldable pub decode : Code → ℕ → List ℕ → Outcome (List ℕ)
 decode c limit s = check TooManyBytes (ltb (c .most) (length s)) (contents c limit s)
 
--- A row for an output with so much room: 5 the output is shorter than the row; else the count
+-- A row, or a text, for an output with so much room: 5 the output is shorter; else the count
 abbrev pub counted : ℕ → List ℕ → Outcome ℕ
 counted room row = check NoRoom (ltb room (length row)) (accepted (length row))

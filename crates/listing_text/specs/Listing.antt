@@ -7,11 +7,12 @@ use lib.Dec.{ltb}
 use lib.ListN.{length, getD, drop}
 use Rattle.columns.specs.Columns.{ascii, column, decimal}
 use Rattle.fibonacci.specs.Code.{codeword}
-use Rattle.calls.specs.declared.Refusal.the-variants.{TooMuchInput, BadLine, NoRoom}
+use Rattle.calls.specs.declared.Refusal.the-variants.{TooMuchInput, BadLine}
 use Rattle.calls.specs.declared.CountAnswer.{CountAnswer}
 use Rattle.calls.specs.Refusals.{reason}
 use Rattle.calls.specs.Calls.{Outcome, accepted, refused, check, andThen, buffer, countOutcome}
 use Rattle.calls.specs.Limits.{mostBytes}
+use Rattle.calls.specs.Reading.{counted}
 use Rattle.encoder.specs.Writing.{write}
 use Rattle.listing_input.specs.Input.{mostInput, fields, isInput}
 use Rattle.listing_lines.specs.Lines.{lines}
@@ -47,7 +48,7 @@ text s = printed (listing s)
 -- ## A text in a lent buffer: 5 the buffer is shorter; else how many bytes the text has
 
 unfoldable pub put : List ℕ → ℕ → Outcome ℕ
-put t room = check NoRoom (ltb room (length t)) (accepted (length t))
+put t room = counted room t
 
 unfoldable pub putInto : List ℕ → List ℕ → List ℕ
 putInto t before = buffer (put t (length before)) t before

@@ -73,7 +73,8 @@ pub fn start_of(
     end_of(positions, order, limit, zero, k - ones, b, own)
 }
 
-// Where the bitmaps of a node end, once those of the side that a walk has taken have ended at bit `at`; `ones` of the node's own bits are ones.
+// Where the bitmaps of a node end, once those of the side that a walk has taken have ended at bit `at`; `ones` of the node's own bits are ones. The walk shows
+// what it shows for `start_of`.
 pub fn end_after(
     positions: &[u32; 47],
     order: usize,
