@@ -18,14 +18,14 @@ use Rattle.fibonacci.proofs.Rows.{numbers-bits}
 use Rattle.calls.specs.declared.Refusal.{Refusal}
 use Rattle.calls.specs.declared.Refusal.the-variants.{BadOrder, PastBuffer, BadNumber, FullRow, NoRoom}
 use Rattle.calls.specs.Calls.{Outcome, accepted, refused, buffer}
-use Rattle.calls.specs.Limits.{isOrder, Order, isNumber, largest, longest, mostBytes}
+use Rattle.calls.specs.Limits.{isOrder, Order, isNumber, maxNumber, maxCount, maxBytes}
 use Rattle.calls.specs.Reading.{decode}
 use Rattle.calls.proofs.Checks.{order-is, is-order, check-passed, then-passed, accepted-one}
 use Rattle.reading.specs.Reading.{fibonacci}
 use Rattle.reading.proofs.Decoding.{decode-is}
 use Rattle.codeword_writer.proofs.Rows.{bits-snoc}
 use Rattle.appender.specs.Appending.{extend, append, appendInto}
-use Rattle.appender.specs.Plans.{PlansAfter, Plans}
+use Rattle.appender.specs.Leaves.{PlansAfter, Plans}
 use Rattle.appender.specs.declared.Planned.{Planned}
 use Rattle.appender.specs.declared.Planned.the-variants.{Put, Refused}
 
@@ -37,30 +37,30 @@ module _ (m room : ℕ) (row : List ℕ) (n : ℕ) where
   unfolding encoding
   longer = pack-length (rowBits m (row ++ (n ∷ []))) ∙ ap byteCount (ap length (bits-snoc m row n) ∙ length-append (rowBits m row) (codeword m n))
 
-  pub extend-number : isNumber largest n ≡ false → extend m room row n ≡ refused (BadNumber 0)
+  pub extend-number : isNumber maxNumber n ≡ false → extend m room row n ≡ refused (BadNumber 0)
   unfolding extend
   extend-number f = rw f refl
 
-  module _ (legal : isNumber largest n ≡ true) where
-    pub extend-full : longest ≤ length row → extend m room row n ≡ refused FullRow
+  module _ (legal : isNumber maxNumber n ≡ true) where
+    pub extend-full : maxCount ≤ length row → extend m room row n ≡ refused FullRow
     unfolding extend
-    extend-full h = rw (legal, le-leb longest (length row) h) refl
+    extend-full h = rw (legal, le-leb maxCount (length row) h) refl
 
-    module _ (less : length row < longest) where
+    module _ (less : length row < maxCount) where
       pub extend-room : room < length (encoding m (row ++ (n ∷ []))) → extend m room row n ≡ refused NoRoom
       unfolding extend
-      extend-room h = rw (legal, lt-leb longest (length row) less, lt-ltb room _ h) refl
+      extend-room h = rw (legal, lt-leb maxCount (length row) less, lt-ltb room _ h) refl
 
       pub extend-fits : length (encoding m (row ++ (n ∷ []))) ≤ room → extend m room row n ≡ accepted (length (encoding m (row ++ (n ∷ []))), suc (length row))
       unfolding extend
-      extend-fits h = rw (legal, lt-leb longest (length row) less, le-ltb room _ h) refl
+      extend-fits h = rw (legal, lt-leb maxCount (length row) less, le-ltb room _ h) refl
 
   pub extend-is : (bytes count : ℕ) → extend m room row n ≡ accepted (bytes, count)
       → (length (encoding m (row ++ (n ∷ []))) ≤ room) × (bytes ≡ length (encoding m (row ++ (n ∷ []))))
   unfolding extend
   extend-is bytes count e =
-      let p3 = check-passed (BadNumber 0) (not (isNumber largest n)) _ _ e in
-      let p4 = check-passed FullRow (leb longest (length row)) _ _ (p3 .1) in
+      let p3 = check-passed (BadNumber 0) (not (isNumber maxNumber n)) _ _ e in
+      let p4 = check-passed FullRow (leb maxCount (length row)) _ _ (p3 .1) in
       let p5 = check-passed NoRoom (ltb room (length (encoding m (row ++ (n ∷ []))))) _ _ (p4 .1) in
       (ltb-false room _ (p5 .0), sym (ap (λ (x : ℕ × ℕ). x .0) (accepted-one (p5 .1))))
 
@@ -74,9 +74,9 @@ row-bits : (m : ℕ) (s : List ℕ) → 1 ≤ m → length (rowBits m (numbers m
 row-bits m s p =
     omega (arith, ap length (row-begins m s p), length-append (rowBits m (numbers m (unpack s))) (rest (parse m (unpack s))), unpack-length s)
 
-pub read-bits : (m : ℕ) (s row : List ℕ) → 1 ≤ m → decode (fibonacci m) largest s ≡ accepted row → length (rowBits m row) ≤ 8 * mostBytes
+pub read-bits : (m : ℕ) (s row : List ℕ) → 1 ≤ m → decode (fibonacci m) maxNumber s ≡ accepted row → length (rowBits m row) ≤ 8 * maxBytes
 read-bits m s row p e =
-    let d = decode-is m largest s row e in
+    let d = decode-is m maxNumber s row e in
     omega (arith, ap (λ (l : List ℕ). length (rowBits m l)) (d .is), row-bits m s p, d .bytes)
 
 module _ (m : ℕ) (before : List ℕ) (used n : ℕ) where
@@ -90,11 +90,11 @@ module _ (m : ℕ) (before : List ℕ) (used n : ℕ) where
     append-past h = rw (o, lt-ltb (length before) used h) refl
 
     module _ (i : used ≤ length before) where
-      pub append-unread : (r : Refusal) → decode (fibonacci m) largest (take used before) ≡ refused r → append m before used n ≡ refused r
+      pub append-unread : (r : Refusal) → decode (fibonacci m) maxNumber (take used before) ≡ refused r → append m before used n ≡ refused r
       unfolding append
       append-unread r e = rw (o, le-ltb (length before) used i, e) refl
 
-      pub append-read : (row : List ℕ) → decode (fibonacci m) largest (take used before) ≡ accepted row → append m before used n ≡ extend m (length before) row n
+      pub append-read : (row : List ℕ) → decode (fibonacci m) maxNumber (take used before) ≡ accepted row → append m before used n ≡ extend m (length before) row n
       unfolding append
       append-read row e = rw (o, le-ltb (length before) used i, e) refl
 
@@ -116,8 +116,8 @@ module _ (m : ℕ) (before : List ℕ) (used n : ℕ) where
     unfolded =
         let p1 = check-passed BadOrder (not (isOrder m)) _ _ e in
         let p2 = check-passed PastBuffer (ltb (length before) used) _ _ (p1 .1) in
-        let t = then-passed (decode (fibonacci m) largest s) _ _ (p2 .1) in
-        (order-is m (not-false _ (p1 .0)), ltb-false (length before) used (p2 .0), rw (decode-is m largest s (t .0) (t .1) .is) at (t .2))
+        let t = then-passed (decode (fibonacci m) maxNumber s) _ _ (p2 .1) in
+        (order-is m (not-false _ (p1 .0)), ltb-false (length before) used (p2 .0), rw (decode-is m maxNumber s (t .0) (t .1) .is) at (t .2))
 
     bits-used : length (rowBits m row) ≤ 8 * used
     bits-used = omega (arith, row-bits m s (omega (arith, unfolded .0)), length-take-le used before (unfolded .1))

@@ -8,7 +8,7 @@ use Rattle.bits.specs.Bits.{unpack}
 use Rattle.fibonacci.specs.Encoding.{encoding, numbers}
 use Rattle.calls.specs.declared.Refusal.the-variants.{BadOrder, PastBuffer, BadNumber, FullRow, NoRoom}
 use Rattle.calls.specs.Calls.{Outcome, accepted, refused, check, andThen, buffer}
-use Rattle.calls.specs.Limits.{isOrder, isNumber, largest, longest}
+use Rattle.calls.specs.Limits.{isOrder, isNumber, maxNumber, maxCount}
 use Rattle.calls.specs.Reading.{decode}
 use Rattle.reading.specs.Reading.{fibonacci}
 use Rattle.appender.specs.declared.AppendAnswer.{AppendAnswer}
@@ -18,8 +18,8 @@ use Rattle.appender.specs.declared.AppendAnswer.the-variants.{Appended, 
 -- the new bytes in use and the new count
 unfoldable pub extend : ℕ → ℕ → List ℕ → ℕ → Outcome (ℕ × ℕ)
 extend m room row n =
-    check (BadNumber 0) (not (isNumber largest n))
-    (check FullRow (leb longest (length row))
+    check (BadNumber 0) (not (isNumber maxNumber n))
+    (check FullRow (leb maxCount (length row))
     (check NoRoom (ltb room (length (encoding m (row ++ (n ∷ [])))))
     (accepted (length (encoding m (row ++ (n ∷ []))), suc (length row)))))
 
@@ -28,7 +28,7 @@ unfoldable pub append : ℕ → List ℕ → ℕ → ℕ → Outcome (ℕ × ℕ
 append m before used n =
     check BadOrder (not (isOrder m))
     (check PastBuffer (ltb (length before) used)
-    (andThen (decode (fibonacci m) largest (take used before)) (λ row. extend m (length before) row n)))
+    (andThen (decode (fibonacci m) maxNumber (take used before)) (λ row. extend m (length before) row n)))
 
 -- The buffer after appending: what writing the longer row gives
 unfoldable pub appendInto : ℕ → List ℕ → ℕ → ℕ → List ℕ

@@ -1,3 +1,2 @@
 pub mod Appending
-pub mod RoundTrip
-pub mod Plans
+pub mod Leaves

@@ -1,9 +1,9 @@
 // Appending a number to an encoding of order 2 to 6.
 ghost use mathlib.Core.Path.{_≡_};
 ghost use Prim.Native.Nat.{_*_, _≤_};
-ghost use Rattle.calls.specs.Limits.{Order, mostBytes};
+ghost use Rattle.calls.specs.Limits.{Order, maxBytes};
 ghost use Rattle.appender.specs.Appending.{append, appendInto, appendOutcome};
-ghost use Rattle.appender.specs.Plans.{PlansFor, Plans};
+ghost use Rattle.appender.specs.Leaves.{PlansFor, Plans};
 use calls::Refusal;
 use decoder::SpanAnswer;
 
@@ -29,13 +29,13 @@ enum Planned {
 
 // The plan for a number more after a row of so many numbers and bits, in a buffer with so much room.
 fn plan_after(order: usize, room: usize, count: usize, bits: usize, n: u64) -> Planned
-    requires { ⌜ Order order × (bits ≤ 8 * mostBytes) ⌝ }
+    requires { ⌜ Order order × (bits ≤ 8 * maxBytes) ⌝ }
     ensures { λ r. ⌜ PlansFor order room count bits n r ⌝ }
 {
-    if !calls::is_number(n, calls::LARGEST) {
+    if !calls::is_number(n, calls::MAX_NUMBER) {
         return Planned::Refused(Refusal::BadNumber(0));
     }
-    if count >= calls::LONGEST {
+    if count >= calls::MAX_COUNT {
         return Planned::Refused(Refusal::FullRow);
     }
     let positions = fibonacci::positions(order);
@@ -64,7 +64,7 @@ fn plan(order: usize, buf: &[u8], used: usize, n: u64) -> Planned
     if used > buf.len() {
         return Planned::Refused(Refusal::PastBuffer);
     }
-    let scanned = decoder::sum_span(order, &buf[0..used], calls::LARGEST, 0, 0);
+    let scanned = decoder::sum_span(order, &buf[0..used], calls::MAX_NUMBER, 0, 0);
     match scanned {
         SpanAnswer::Refused(r) => Planned::Refused(r),
         SpanAnswer::Row(f) => plan_after(order, buf.len(), f.count, f.bits, n),

@@ -9,36 +9,36 @@ use native.Mathlib.Numerals.{add-one}
 use lib.ListN.{length, getD, drop, length-append, length-replicate}
 use lib.Seq.{drop-cons}
 use Rattle.fibonacci.specs.Code.{ones, runs, value, first}
-use Rattle.calls.specs.Limits.{largest}
+use Rattle.calls.specs.Limits.{maxNumber}
 use Rattle.fibonacci.proofs.Runs.{runs-ones, runs-all, runs-reset, ones-on}
 use Rattle.fibonacci.proofs.Numbers.{first-rises, value-append}
 use Rattle.reading.proofs.Reached.{Settled, settled-runs}
-use Rattle.bit_decoder.specs.Sought.{Sought}
+use Rattle.bit_decoder.specs.Leaves.{Sought}
 
 -- a zero makes the ones before it count
-value-zero : (m : ℕ) (stem : List Bool) (run : ℕ) → value m 1 (stem ++ (ones run ++ (false ∷ []))) ≡ value m 1 stem + value m (1 + length stem) (ones run)
+value-zero : (m : ℕ) (body : List Bool) (run : ℕ) → value m 1 (body ++ (ones run ++ (false ∷ []))) ≡ value m 1 body + value m (1 + length body) (ones run)
 unfolding value
-value-zero m stem run = omega (arith, value-append m 1 stem (ones run ++ (false ∷ [])), value-append m (1 + length stem) (ones run) (false ∷ []))
+value-zero m body run = omega (arith, value-append m 1 body (ones run ++ (false ∷ [])), value-append m (1 + length body) (ones run) (false ∷ []))
 
 -- From bit `from` up to bit k no codeword has ended before that bit; what is pending is known by its length, its value, as far as a number of that length can be
 -- legal, and its ones
 pub record Seeking (m : ℕ) (b : List Bool) (from k len val run : ℕ) : Type 0 where
-  pub stem : List Bool
-  pub bits : drop from b ≡ (stem ++ ones run) ++ drop k b
-  pub settled : Settled stem
-  pub free : runs m stem ≡ 0
+  pub body : List Bool
+  pub bits : drop from b ≡ (body ++ ones run) ++ drop k b
+  pub settled : Settled body
+  pub free : runs m body ≡ 0
   pub few : run ≤ m
   pub within : k ≤ length b
   pub at : k ≡ from + (len + run)
-  pub long : length stem ≡ len
-  pub worth : first m len ≤ largest → val ≡ value m 1 stem
-  pub small : val ≤ largest * k
+  pub long : length body ≡ len
+  pub worth : first m len ≤ maxNumber → val ≡ value m 1 body
+  pub small : val ≤ maxNumber * k
 
 pub seeking-start : (m : ℕ) (b : List Bool) (from : ℕ) → from ≤ length b → Seeking m b from from 0 0 0
 unfolding value runs
 seeking-start m b from h =
     record {
-      stem = [];
+      body = [];
       bits = refl;
       settled = inl refl;
       free = refl;
@@ -55,7 +55,7 @@ module _ {m : ℕ} {b : List Bool} {from k len val run : ℕ} (w : Seeking m b f
   pub seeking-done : (run < m → length b ≤ k) → Sought m b from (record { bit = k; len = len; val = val; run = run })
   seeking-done end =
       record {
-        stem = w .stem;
+        body = w .body;
         bits = w .bits;
         at = w .at;
         within = w .within;
@@ -65,48 +65,48 @@ module _ {m : ℕ} {b : List Bool} {from k len val run : ℕ} (w : Seeking m b f
         ended = λ h. (
           omega (arith, w .few),
           record {
-            once = omega (arith, settled-runs m (w .stem) (ones m) pos (w .settled), w .free, runs-all m pos);
-            stem = w .stem;
+            once = omega (arith, settled-runs m (w .body) (ones m) pos (w .settled), w .free, runs-all m pos);
+            body = w .body;
             ends = refl;
           },
         );
-        left = λ h. (end h, omega (arith, settled-runs m (w .stem) (ones run) pos (w .settled), w .free, runs-ones m run h));
+        left = λ h. (end h, omega (arith, settled-runs m (w .body) (ones run) pos (w .settled), w .free, runs-ones m run h));
       }
 
   module _ (h : k < length b) (more : run < m) where
     next : (a : Bool) → getD b k false ≡ a → drop k b ≡ a ∷ drop (k + 1) b
     next a e = drop-cons b k false h ∙ rw e (ap (λ (n : ℕ). a ∷ drop n b) (sym (add-one k)))
 
-    pub seeking-zero : (x : ℕ) → getD b k false ≡ false → (first m (len + run + 1) ≤ largest → x ≡ value m (len + 1) (ones run)) → x ≤ largest
+    pub seeking-zero : (x : ℕ) → getD b k false ≡ false → (first m (len + run + 1) ≤ maxNumber → x ≡ value m (len + 1) (ones run)) → x ≤ maxNumber
         → Seeking m b from (k + 1) (len + (run + 1)) (val + x) 0
     unfolding runs
     seeking-zero x e is few =
         let q : List Bool = ones run ++ (false ∷ []) in
         record {
-          stem = w .stem ++ q;
-          bits = w .bits ∙ ap (λ (d : List Bool). (w .stem ++ ones run) ++ d) (next false e) ∙ simp (append-assoc, append-nil);
-          settled = inr (w .stem ++ ones run, sym (append-assoc (w .stem) (ones run) (false ∷ [])));
-          free = omega (arith, settled-runs m (w .stem) q pos (w .settled), w .free, runs-reset m run [] more);
+          body = w .body ++ q;
+          bits = w .bits ∙ ap (λ (d : List Bool). (w .body ++ ones run) ++ d) (next false e) ∙ simp (append-assoc, append-nil);
+          settled = inr (w .body ++ ones run, sym (append-assoc (w .body) (ones run) (false ∷ [])));
+          free = omega (arith, settled-runs m (w .body) q pos (w .settled), w .free, runs-reset m run [] more);
           few = omega arith;
           within = omega arith;
           at = omega (arith, w .at);
-          long = omega (arith, length-append (w .stem) q, length-append (ones run) (false ∷ []), length-replicate run true, w .long);
+          long = omega (arith, length-append (w .body) q, length-append (ones run) (false ∷ []), length-replicate run true, w .long);
           worth = λ l.
               let far : len + (run + 1) ≡ len + run + 1 = omega arith in
-              let near : first m len ≤ largest = omega (arith, first-rises m {j = len} {k = len + (run + 1)} (omega arith)) in
-              let place : value m (1 + length (w .stem)) (ones run) ≡ value m (len + 1) (ones run) = ap (λ (j : ℕ). value m j (ones run)) (omega (arith, w .long)) in
-              omega (arith, value-zero m (w .stem) run, w .worth near, is (rw (← far) l));
+              let near : first m len ≤ maxNumber = omega (arith, first-rises m {j = len} {k = len + (run + 1)} (omega arith)) in
+              let place : value m (1 + length (w .body)) (ones run) ≡ value m (len + 1) (ones run) = ap (λ (j : ℕ). value m j (ones run)) (omega (arith, w .long)) in
+              omega (arith, value-zero m (w .body) run, w .worth near, is (rw (← far) l));
           small = omega (arith, w .small);
         }
 
     pub seeking-one : getD b k false ≡ true → Seeking m b from (k + 1) len val (run + 1)
     seeking-one e =
         record {
-          stem = w .stem;
+          body = w .body;
           bits =
-              w .bits ∙ ap (λ (d : List Bool). (w .stem ++ ones run) ++ d) (next true e) ∙ append-assoc (w .stem) (ones run) (true ∷ drop (k + 1) b)
-              ∙ ap (λ (d : List Bool). w .stem ++ d) (ones-on run (drop (k + 1) b) ∙ ap (λ (n : ℕ). ones n ++ drop (k + 1) b) (sym (add-one run)))
-              ∙ sym (append-assoc (w .stem) (ones (run + 1)) (drop (k + 1) b));
+              w .bits ∙ ap (λ (d : List Bool). (w .body ++ ones run) ++ d) (next true e) ∙ append-assoc (w .body) (ones run) (true ∷ drop (k + 1) b)
+              ∙ ap (λ (d : List Bool). w .body ++ d) (ones-on run (drop (k + 1) b) ∙ ap (λ (n : ℕ). ones n ++ drop (k + 1) b) (sym (add-one run)))
+              ∙ sym (append-assoc (w .body) (ones (run + 1)) (drop (k + 1) b));
           settled = w .settled;
           free = w .free;
           few = omega arith;

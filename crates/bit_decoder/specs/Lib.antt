@@ -1,1 +1,1 @@
-pub mod Sought
+pub mod Leaves

@@ -4,9 +4,9 @@ ghost use Prim.Native.Nat.{_+_, _*_, _^_, _≤_, _<_};
 ghost use lib.ListN.{length};
 ghost use Rattle.bits.specs.Bits.{unpack};
 ghost use Rattle.fibonacci.specs.Code.{ones, value, first};
-ghost use Rattle.calls.specs.Limits.{largest};
+ghost use Rattle.calls.specs.Limits.{maxNumber};
 ghost use Rattle.fibonacci.specs.Tables.{Firsts};
-ghost use Rattle.bit_decoder.specs.Sought.{Sought};
+ghost use Rattle.bit_decoder.specs.Leaves.{Sought};
 
 // Bits up to bit `bit`: first `len`, the last of them a zero, whose value is `val`, and then `run` ones. With as many ones as the order they are a codeword; with fewer,
 // no codeword ended, and no bit is left.
@@ -21,7 +21,7 @@ pub struct Next {
 // that length can be at most 4,294,967,295; past that the table has no first number, and the result is 0.
 fn ones_value(firsts: &[u32; 47], order: usize, len: usize, run: usize) -> u64
     requires { ⌜ Firsts order (now firsts) × (len + run < 2 ^ 32) ⌝ }
-    ensures { λ r. ⌜ (first order (len + run + 1) ≤ largest → r ≡ value order (len + 1) (ones run)) × (r ≤ largest) ⌝ }
+    ensures { λ r. ⌜ (first order (len + run + 1) ≤ maxNumber → r ≡ value order (len + 1) (ones run)) × (r ≤ maxNumber) ⌝ }
 {
     if run == 0 {
         return 0;

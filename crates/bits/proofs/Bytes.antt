@@ -8,8 +8,8 @@ use lib.ListN.{length, getD, take, drop, set, length-append, List·getD-append, 
 use lib.Seq.{take-at, take-append-le, getD-append-add, set-append-left, set-out, take-nil, drop-nil, take-append-add, drop-append-add}
 use lib.Pow.{shr-lt}
 use lib.Bits.{bitAnd, and-mask}
+use Rattle.lists.proofs.Lists.{flatten-map-append, set-append-add}
 use Rattle.bits.specs.Bits.{bitOf, wordBits, unpack}
-use Rattle.bits.proofs.Lists.{flatten-map-append, set-append-add}
 use Rattle.bits.proofs.Words.{words-length, words-at, words-split}
 
 pub unpack-append : (s t : List ℕ) → unpack (s ++ t) ≡ unpack s ++ unpack t

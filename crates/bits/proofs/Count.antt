@@ -1,7 +1,7 @@
 -- Words read from bytes, and the ones in them.
 use mathlib.Core.Path.{_≡_, refl, sym, ap, ap₂, _∙_}
-use mathlib.Core.Bool.{Bool, true, false}
-use mathlib.Core.List.{List, [], _∷_, _++_, append-nil, flatten}
+use mathlib.Core.Bool.{Bool, true, false, not}
+use mathlib.Core.List.{List, [], _∷_, _++_, append-nil, map, flatten}
 use Prim.Native.Nat.{ℕ, zero, suc, _+_, _-_, _*_, _/_, _%_, _^_, _≤_, _<_}
 use native.Mathlib.Omega.{arith}
 use native.Mathlib.Nat.{add-zero, add-mul, mul-assoc, mod-lt, mod-eq-of-lt}
@@ -10,8 +10,10 @@ use lib.Seq.{take-add, drop-cons, getD-drop}
 use lib.Pow.{pow-pos, pow-add, shl-lt, shl-exact, mod-pow-add}
 use lib.Bits.{bitOr, or-shifted}
 use lib.Count.{ones, onesIn, ones-cat}
-use Rattle.bits.specs.Bits.{wordBits, unpack, worth, is, count}
-use Rattle.bits.proofs.Words.{digit, worth-bit, words-join}
+use Rattle.lists.specs.Lists.{filter}
+use Rattle.lists.proofs.Filter.{filter-pass, filter-fail}
+use Rattle.bits.specs.Bits.{wordBits, unpack, bitValue, sameBit, count}
+use Rattle.bits.proofs.Words.{digit, bit-value, words-join}
 use Rattle.bits.proofs.Bytes.{unpack-append, unpack-length, unpack-take, unpack-drop, high-below, first-bits}
 
 -- ## Bytes as a word
@@ -89,11 +91,11 @@ count-append v (x ∷ a) b = omega (arith, count-append v a b)
 pub count-le : (v : Bool) (b : List Bool) → count v b ≤ length b
 unfolding count
 count-le v [] = omega arith
-count-le v (a ∷ b) = omega (arith, count-le v b, worth-le (is v a))
+count-le v (a ∷ b) = omega (arith, count-le v b, bit-value-le (sameBit v a))
   where
-    worth-le : (a : Bool) → worth a ≤ 1
-    worth-le false = omega arith
-    worth-le true = omega arith
+    bit-value-le : (a : Bool) → bitValue a ≤ 1
+    bit-value-le false = omega arith
+    bit-value-le true = omega arith
 
 -- the ones and the zeros
 pub count-both : (b : List Bool) → count true b + count false b ≡ length b
@@ -123,7 +125,7 @@ unfolding count wordBits ones onesIn
 count-low zero x = let z : x % 1 ≡ 0 = omega arith in sym (ap ones z)
 count-low (suc n) x =
     let e : 1 + n ≡ suc n = omega arith in
-    ap₂ (λ (u v : ℕ). u + v) (worth-bit x n ∙ digit (λ d. d ≡ ones d) refl refl (x / 2 ^ n)) (count-low n x)
+    ap₂ (λ (u v : ℕ). u + v) (bit-value x n ∙ digit (λ d. d ≡ ones d) refl refl (x / 2 ^ n)) (count-low n x)
     ∙ sym (ones-cat n (x / 2 ^ n % 2) (x % 2 ^ n) (mod-lt x (pow-pos n))) ∙ ap ones (sym (mod-pow-add x 1 n) ∙ ap (λ (k : ℕ). x % 2 ^ k) e)
 
 -- the ones of a word, as the machine counts them
@@ -160,3 +162,14 @@ count-part s e h b =
     ap₂ (λ (u v : ℕ). u + v) (ap (count true) (unpack-take s q))
     (sym (count-word j (getD s q 0 / 2 ^ (8 - j)) (high-below (getD s q 0) j (omega arith) b)) ∙ ap (count true) first)
     ∙ sym (count-between true (8 * q) j (unpack s)) ∙ ap (λ (k : ℕ). count true (take k (unpack s))) n
+
+-- as many elements fail a test as there are zeros among its answers
+pub filter-count : {A : Type 0} (f : A → Bool) (l : List A) → length (filter (λ x. not (f x)) l) ≡ count false (map f l)
+unfolding count
+filter-count f [] = unfold filter in refl
+filter-count {A} f (x ∷ l) = go (f x) refl (filter-count f l)
+  where
+    go : (v : Bool) → f x ≡ v → length (filter (λ x. not (f x)) l) ≡ count false (map f l)
+        → length (filter (λ x. not (f x)) (x ∷ l)) ≡ count false (map f (x ∷ l))
+    go true e ih = rw (filter-fail (λ (x : A). not (f x)) x l (ap not e), e) (omega arith)
+    go false e ih = rw (filter-pass (λ (x : A). not (f x)) x l (ap not e), e) (omega arith)

@@ -1,7 +1,6 @@
-pub mod Lists
 pub mod Words
 pub mod Bytes
 pub mod Packing
 pub mod Put
 pub mod Count
-pub mod Place
+pub mod Select

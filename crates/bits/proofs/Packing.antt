@@ -11,7 +11,7 @@ use lib.ListN.{length, drop, replicate, replicate-append-replicate}
 use lib.Seq.{drop-nil, drop-at, getD-drop}
 use lib.Pow.{mod-pow-add}
 use Rattle.bits.specs.Bits.{wordBits, unpack, wordOf, bytesOf, byteCount, pack, padding, Bytes}
-use Rattle.bits.proofs.Words.{words-length, words-cons, words-zero, worth-bit}
+use Rattle.bits.proofs.Words.{words-length, words-cons, words-zero, bit-value}
 use Rattle.bits.proofs.Bytes.{unpack-length}
 
 -- the first n bits, zeros where they end before
@@ -107,7 +107,7 @@ unfolding wordOf wordBits
 word-of-bits zero x t = omega arith
 word-of-bits (suc n) x t =
     let e : 1 + n ≡ suc n = omega arith in
-    ap₂ (λ (u v : ℕ). u * 2 ^ n + v) (worth-bit x n) (word-of-bits n x t) ∙ sym (mod-pow-add x 1 n) ∙ ap (λ (k : ℕ). x % 2 ^ k) e
+    ap₂ (λ (u v : ℕ). u * 2 ^ n + v) (bit-value x n) (word-of-bits n x t) ∙ sym (mod-pow-add x 1 n) ∙ ap (λ (k : ℕ). x % 2 ^ k) e
 
 bytes-unpack : (s : List ℕ) → Bytes s → bytesOf (length s) (unpack s) ≡ s
 unfolding bytesOf unpack flatten

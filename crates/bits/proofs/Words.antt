@@ -12,7 +12,7 @@ use lib.Bits.{bitAnd, bitOr, and-mask, and-shr, or-shr, and-step, or-step}
 use native.Mathlib.Decide.{ℕ-discrete}
 use lib.Dec.{eqb, eqb·suc-suc}
 use borrow.Author.Tests.{eq-eqb, ne-eqb}
-use Rattle.bits.specs.Bits.{bitOf, wordBits, worth}
+use Rattle.bits.specs.Bits.{bitOf, wordBits, bitValue}
 
 -- ## One bit
 
@@ -62,9 +62,9 @@ digit P a b x = go (x % 2) (omega arith)
     go (suc zero) h = b
     go (suc (suc d)) h = absurd (omega arith)
 
-pub worth-bit : (x k : ℕ) → worth (bitOf x k) ≡ x / 2 ^ k % 2
+pub bit-value : (x k : ℕ) → bitValue (bitOf x k) ≡ x / 2 ^ k % 2
 unfolding bitOf
-worth-bit x k = digit (λ d. worth (eqb d 1) ≡ d) refl refl (x / 2 ^ k)
+bit-value x k = digit (λ d. bitValue (eqb d 1) ≡ d) refl refl (x / 2 ^ k)
 
 -- the complement of a word
 pub bit-not : (n k x : ℕ) → k < n → x < 2 ^ n → bitOf (2 ^ n - 1 - x) k ≡ not (bitOf x k)
@@ -174,12 +174,12 @@ words-join a b x y h =
     (sym (words-mod b b (x * 2 ^ b + y) (omega arith)) ∙ ap (wordBits b) (low x b h))
 
 -- a bit on top of a word
-pub words-cons : (a : Bool) (n x : ℕ) → x < 2 ^ n → wordBits (suc n) (worth a * 2 ^ n + x) ≡ a ∷ wordBits n x
+pub words-cons : (a : Bool) (n x : ℕ) → x < 2 ^ n → wordBits (suc n) (bitValue a * 2 ^ n + x) ≡ a ∷ wordBits n x
 words-cons a n x h =
     let e : suc n ≡ 1 + n = omega arith in
-    ap (λ (k : ℕ). wordBits k (worth a * 2 ^ n + x)) e ∙ words-join 1 n (worth a) x h ∙ ap (λ (l : List Bool). l ++ wordBits n x) (one a)
+    ap (λ (k : ℕ). wordBits k (bitValue a * 2 ^ n + x)) e ∙ words-join 1 n (bitValue a) x h ∙ ap (λ (l : List Bool). l ++ wordBits n x) (one a)
   where
-    one : (a : Bool) → wordBits 1 (worth a) ≡ a ∷ []
+    one : (a : Bool) → wordBits 1 (bitValue a) ≡ a ∷ []
     one false = unfold wordBits bitOf in refl
     one true = unfold wordBits bitOf in refl
 

@@ -27,15 +27,15 @@ unpack bytes = flatten (map (wordBits 8) bytes)
 -- ## From bits to bytes
 
 -- A one counts 1, a zero nothing
-abbrev pub worth : Bool → ℕ
-worth false = 0
-worth true = 1
+abbrev pub bitValue : Bool → ℕ
+bitValue false = 0
+bitValue true = 1
 
 -- The number of n bits, the first worth 2 ^ (n - 1); bits that are missing are zeros
 unfoldable pub wordOf : ℕ → List Bool → ℕ
 wordOf zero b = 0
 wordOf (suc n) [] = 0
-wordOf (suc n) (a ∷ b) = worth a * 2 ^ n + wordOf n b
+wordOf (suc n) (a ∷ b) = bitValue a * 2 ^ n + wordOf n b
 
 -- The first c bytes of a list of bits, the first bit of each worth 128
 unfoldable pub bytesOf : ℕ → List Bool → List ℕ
@@ -67,17 +67,17 @@ putAt n new old = putTo n new (8 * byteCount (n + length new)) old
 -- ## Counting
 
 -- Whether a bit is the first one given
-abbrev pub is : Bool → Bool → Bool
-is true a = a
-is false a = not a
+abbrev pub sameBit : Bool → Bool → Bool
+sameBit true a = a
+sameBit false a = not a
 
 -- How often the bit v stands in a list of bits
 unfoldable pub count : Bool → List Bool → ℕ
 count v [] = 0
-count v (a ∷ b) = worth (is v a) + count v b
+count v (a ∷ b) = bitValue (sameBit v a) + count v b
 
 -- The place of the bit v that has j others of its kind before it; where there is none, how many bits there are
-unfoldable pub place : Bool → ℕ → List Bool → ℕ
-place v j [] = 0
-place v zero (a ∷ b) = elim (is v a) [ true ↦ 0 | false ↦ suc (place v zero b) ]
-place v (suc j) (a ∷ b) = suc (elim (is v a) [ true ↦ place v j b | false ↦ place v (suc j) b ])
+unfoldable pub selectBit : Bool → ℕ → List Bool → ℕ
+selectBit v j [] = 0
+selectBit v zero (a ∷ b) = elim (sameBit v a) [ true ↦ 0 | false ↦ suc (selectBit v zero b) ]
+selectBit v (suc j) (a ∷ b) = suc (elim (sameBit v a) [ true ↦ selectBit v j b | false ↦ selectBit v (suc j) b ])

@@ -7,27 +7,28 @@ use native.Mathlib.Omega.{arith}
 use native.Mathlib.Nat.{mul-add, add-mul, mul-zero, zero-add}
 use lib.ListN.{getD}
 use borrow.Author.Tests.{leb-true}
+use Rattle.lists.proofs.Lists.{values-at}
 use Rattle.fibonacci.specs.Code.{past, F, value}
-use Rattle.calls.specs.Limits.{largest}
-use Rattle.fibonacci.specs.Tables.{bounded}
-use Rattle.fibonacci.proofs.Numeration.{part, F-suc, part-suc, part-zero, part-none, F-rises}
-use Rattle.fibonacci.proofs.Lookup.{values-at, bounded-is}
-use Rattle.byte_table.specs.Table.{F2, positionWords, moved, byF, byF1, byF2}
+use Rattle.calls.specs.Limits.{maxNumber}
+use Rattle.fibonacci.specs.Tables.{numberOrZero}
+use Rattle.fibonacci.proofs.Numeration.{sumDown, F-suc, sumDown-suc, sumDown-zero, sumDown-none, F-rises}
+use Rattle.fibonacci.proofs.Lookup.{number-kept}
+use Rattle.byte_table.specs.Leaves.{F2, positionWords, moved, byF, byF1, byF2}
 
 -- ## The table of position values
 
 -- as far as the table goes they are small
-F2-small : (n : ℕ) → n < 40 → F2 n ≤ largest
+F2-small : (n : ℕ) → n < 40 → F2 n ≤ maxNumber
 unfolding F2
 F2-small zero h = omega arith
 F2-small (suc zero) h = omega arith
 F2-small (suc (suc n)) h =
-    let last : F 3 37 ≤ largest = unfold F past in leb-true (F 3 37) largest refl in
+    let last : F 3 37 ≤ maxNumber = unfold F past in leb-true (F 3 37) maxNumber refl in
     omega (arith, F-rises 3 (omega arith) {j = n} {k = 37} (omega arith), last)
 
 pub position-at : (n : ℕ) → n < 40 → getD positionWords n 0 ≡ F2 n
 unfolding positionWords
-position-at n h = values-at (λ n. bounded (F2 n)) 0 40 n 0 h ∙ ap (λ (n : ℕ). bounded (F2 n)) (zero-add n) ∙ bounded-is (F2 n) (F2-small n h)
+position-at n h = values-at (λ n. numberOrZero (F2 n)) 0 40 n 0 h ∙ ap (λ (n : ℕ). numberOrZero (F2 n)) (zero-add n) ∙ number-kept (F2 n) (F2-small n h)
 
 -- ## One position value
 
@@ -37,11 +38,11 @@ unfolding F2
 F2-next zero = unfold F past in refl
 F2-next (suc zero) = unfold F past in refl
 F2-next (suc (suc n)) =
-    omega (arith, F-suc 3 (suc (suc n)), part-suc 3 (suc n) 2, part-suc 3 n 1, alone n)
+    omega (arith, F-suc 3 (suc (suc n)), sumDown-suc 3 (suc n) 2, sumDown-suc 3 n 1, alone n)
   where
-    alone : (n : ℕ) → part 3 n 1 ≡ F 3 n
-    alone zero = part-zero 3 1 (omega arith) ∙ (unfold F past in refl)
-    alone (suc n) = omega (arith, part-suc 3 n 0, part-none 3 n)
+    alone : (n : ℕ) → sumDown 3 n 1 ≡ F 3 n
+    alone zero = sumDown-zero 3 1 (omega arith) ∙ (unfold F past in refl)
+    alone (suc n) = omega (arith, sumDown-suc 3 n 0, sumDown-none 3 n)
 
 -- F(l + j) for j from 1 up
 F-moved : (l j : ℕ) → F 3 (l + suc j) ≡ moved l (F 3 (suc j)) (F 3 j + F2 (suc j)) (F 3 j)

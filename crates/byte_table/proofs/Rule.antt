@@ -4,12 +4,13 @@ use mathlib.Core.List.{List}
 use Prim.Native.Nat.{ℕ, _+_, _*_, _/_, _%_, _<_}
 use native.Mathlib.Nat.{zero-add}
 use lib.ListN.{getD}
+use Rattle.lists.specs.Lists.{valuesFrom}
+use Rattle.lists.proofs.Lists.{values-at}
 use Rattle.bits.specs.Bits.{bitOf, wordBits}
-use Rattle.fibonacci.specs.Code.{valuesFrom, past, F, value, first, number}
+use Rattle.fibonacci.specs.Code.{past, F, value, first, number}
 use Rattle.fibonacci.specs.Encoding.{parse, parseAfter}
-use Rattle.fibonacci.proofs.Lookup.{values-at}
 use Rattle.byte_table.specs.declared.Row.{Row}
-use Rattle.byte_table.specs.Table.{stem, trail, after, front, inside, rowOf, rowAt, headWord, tailWord, headWords, tailWords}
+use Rattle.byte_table.specs.Leaves.{withoutTrailing, trailingOnes, after, front, inside, rowOfParse, rowAt, headWord, tailWord, headWords, tailWords}
 
 -- The row that two words stand for
 abbrev pub unpacked : ℕ → ℕ → Row
@@ -29,7 +30,7 @@ unpacked head tail =
 
 -- the words of each row stand for it
 tested : valuesFrom (λ i. unpacked (headWord (rowAt i)) (tailWord (rowAt i))) 0 768 ≡ valuesFrom rowAt 0 768
-unfolding rowAt rowOf after front inside stem trail parse parseAfter value number first F past wordBits bitOf
+unfolding rowAt rowOfParse after front inside withoutTrailing trailingOnes parse parseAfter value number first F past wordBits bitOf
 tested = refl
 
 pub rule : (i : ℕ) → i < 768 → unpacked (getD headWords i 0) (getD tailWords i 0) ≡ rowAt i

@@ -1,7 +1,7 @@
 // The table of the table decoder: what each byte, after 0, 1 or 2 ones, does to a pending codeword of order 3.
 ghost use mathlib.Core.Path.{_≡_};
 ghost use Prim.Native.Nat.{_+_, _*_, _^_, _<_};
-ghost use Rattle.byte_table.specs.Table.{rowAt, Small, headWords, tailWords, positionWords, moved};
+ghost use Rattle.byte_table.specs.Leaves.{rowAt, Small, headWords, tailWords, positionWords, moved};
 
 mod tables;
 

@@ -9,9 +9,10 @@ use lib.Dec.{leb}
 use lib.ListN.{length, getD, drop}
 use lib.Seq.{drop-cons}
 use borrow.Author.Tests.{le-leb, lt-leb, leb-true, not-false}
+use Rattle.lists.specs.Lists.{All}
 use Rattle.calls.specs.declared.Refusal.{Refusal}
 use Rattle.calls.specs.Calls.{Outcome, accepted, refused, check, andThen}
-use Rattle.calls.specs.Limits.{All, within, isOrder, Order, isNumber, Legal, checkEach}
+use Rattle.calls.specs.Limits.{within, isOrder, Order, isNumber, Legal, checkEach}
 
 -- ## One number
 

@@ -11,68 +11,68 @@ use lib.ListN.{length}
 use borrow.Author.Tests.{le-leb, lt-leb, leb-false, not-false}
 use Rattle.calls.specs.declared.Refusal.the-variants.{TooManyCodewords, TooLarge}
 use Rattle.calls.specs.Calls.{Outcome, accepted, refused}
-use Rattle.calls.specs.Limits.{isNumber, Legal, longest}
+use Rattle.calls.specs.Limits.{isNumber, Legal, maxCount}
 use Rattle.calls.specs.Reading.{checkFinished}
 use Rattle.calls.proofs.Checks.{check-passed}
 
-finished-more : {A : Type 0} (limit i : ℕ) (xs ys : List ℕ) (next : Outcome A) → Legal limit xs → i + length xs ≤ longest
+finished-more : {A : Type 0} (limit i : ℕ) (xs ys : List ℕ) (next : Outcome A) → Legal limit xs → i + length xs ≤ maxCount
     → checkFinished limit i (xs ++ ys) next ≡ checkFinished limit (i + length xs) ys next
 unfolding checkFinished
 finished-more limit i [] ys next a h = ap (λ (k : ℕ). checkFinished limit k ys next) (sym (add-zero i))
 finished-more limit i (x ∷ xs) ys next a h =
     let k : suc i + length xs ≡ i + suc (length xs) = omega arith in
-    simp (lt-leb longest i (omega arith), a .0) (finished-more limit (suc i) xs ys next (a .1) (omega arith)
+    simp (lt-leb maxCount i (omega arith), a .0) (finished-more limit (suc i) xs ys next (a .1) (omega arith)
     ∙ ap (λ (k : ℕ). checkFinished limit k ys next) k)
 
-finished-at : {A : Type 0} (limit i : ℕ) (xs ys : List ℕ) (next : Outcome A) → Legal limit xs → length xs ≡ i → i ≤ longest
+finished-at : {A : Type 0} (limit i : ℕ) (xs ys : List ℕ) (next : Outcome A) → Legal limit xs → length xs ≡ i → i ≤ maxCount
     → checkFinished limit 0 (xs ++ ys) next ≡ checkFinished limit i ys next
 finished-at limit i xs ys next a l h =
     let e : 0 + length xs ≡ i = omega arith in
     rw (← e) (finished-more limit 0 xs ys next a (omega arith))
 
 -- all pass
-pub finished-all : {A : Type 0} (limit : ℕ) (xs : List ℕ) (next : Outcome A) → Legal limit xs → length xs ≤ longest
+pub finished-all : {A : Type 0} (limit : ℕ) (xs : List ℕ) (next : Outcome A) → Legal limit xs → length xs ≤ maxCount
     → checkFinished limit 0 xs next ≡ next
 unfolding checkFinished
 finished-all limit xs next a h =
     ap (λ (ns : List ℕ). checkFinished limit 0 ns next) (sym (append-nil xs)) ∙ finished-at limit (length xs) xs [] next a refl h
 
-many : {A : Type 0} (limit i x : ℕ) (xs : List ℕ) (next : Outcome A) → i ≡ longest → checkFinished limit i (x ∷ xs) next ≡ refused TooManyCodewords
+many : {A : Type 0} (limit i x : ℕ) (xs : List ℕ) (next : Outcome A) → i ≡ maxCount → checkFinished limit i (x ∷ xs) next ≡ refused TooManyCodewords
 unfolding checkFinished
-many limit i x xs next h = simp (le-leb longest i (omega arith))
+many limit i x xs next h = simp (le-leb maxCount i (omega arith))
 
-large : {A : Type 0} (limit i x : ℕ) (xs : List ℕ) (next : Outcome A) → i < longest → isNumber limit x ≡ false
+large : {A : Type 0} (limit i x : ℕ) (xs : List ℕ) (next : Outcome A) → i < maxCount → isNumber limit x ≡ false
     → checkFinished limit i (x ∷ xs) next ≡ refused (TooLarge i)
 unfolding checkFinished
-large limit i x xs next h e = simp (lt-leb longest i h, e)
+large limit i x xs next h e = simp (lt-leb maxCount i h, e)
 
 -- The numbers `done` have passed their checks, and the next one decides
 module _ {A : Type 0} (limit : ℕ) (done : List ℕ) (legal : Legal limit done) (next : Outcome A) where
-  pub finished-many : (x : ℕ) (more : List ℕ) → length done ≡ longest → checkFinished limit 0 (done ++ (x ∷ more)) next ≡ refused TooManyCodewords
-  finished-many x more l = finished-at limit longest done (x ∷ more) next legal l (omega arith) ∙ many limit longest x more next refl
+  pub finished-many : (x : ℕ) (more : List ℕ) → length done ≡ maxCount → checkFinished limit 0 (done ++ (x ∷ more)) next ≡ refused TooManyCodewords
+  finished-many x more l = finished-at limit maxCount done (x ∷ more) next legal l (omega arith) ∙ many limit maxCount x more next refl
 
-  pub finished-large : (x : ℕ) (more : List ℕ) → length done < longest → isNumber limit x ≡ false
+  pub finished-large : (x : ℕ) (more : List ℕ) → length done < maxCount → isNumber limit x ≡ false
       → checkFinished limit 0 (done ++ (x ∷ more)) next ≡ refused (TooLarge (length done))
   finished-large x more l n = finished-at limit (length done) done (x ∷ more) next legal refl (omega arith) ∙ large limit (length done) x more next l n
 
 -- numbers that are all legal are too many
-pub finished-past : {A : Type 0} (limit i : ℕ) (xs ys : List ℕ) (next : Outcome A) → Legal limit xs → i ≤ longest → longest < i + length xs
+pub finished-past : {A : Type 0} (limit i : ℕ) (xs ys : List ℕ) (next : Outcome A) → Legal limit xs → i ≤ maxCount → maxCount < i + length xs
     → checkFinished limit i (xs ++ ys) next ≡ refused TooManyCodewords
 unfolding checkFinished
 finished-past limit i [] ys next a k h = absurd (omega arith)
 finished-past limit i (x ∷ xs) ys next a k h =
-    elim (decLe longest i) [
-      | yes l ↦ simp (le-leb longest i l)
-      | no l ↦ simp (lt-leb longest i (omega arith), a .0) (finished-past limit (suc i) xs ys next (a .1) (omega arith) (omega arith))
+    elim (decLe maxCount i) [
+      | yes l ↦ simp (le-leb maxCount i l)
+      | no l ↦ simp (lt-leb maxCount i (omega arith), a .0) (finished-past limit (suc i) xs ys next (a .1) (omega arith) (omega arith))
     ]
 
 -- what it says that they all passed
-pub finished-passed : {A : Type 0} (limit i : ℕ) (ns : List ℕ) (next : Outcome A) (x : A) → i ≤ longest → checkFinished limit i ns next ≡ accepted x
-    → Legal limit ns × (i + length ns ≤ longest) × (next ≡ accepted x)
+pub finished-passed : {A : Type 0} (limit i : ℕ) (ns : List ℕ) (next : Outcome A) (x : A) → i ≤ maxCount → checkFinished limit i ns next ≡ accepted x
+    → Legal limit ns × (i + length ns ≤ maxCount) × (next ≡ accepted x)
 unfolding checkFinished
 finished-passed limit i [] next x h e = (tt, omega arith, e)
 finished-passed limit i (n ∷ ns) next x h e =
-    let p = check-passed TooManyCodewords (leb longest i) _ x e in
+    let p = check-passed TooManyCodewords (leb maxCount i) _ x e in
     let q = check-passed (TooLarge i) (not (isNumber limit n)) _ x (p .1) in
-    let r = finished-passed limit (suc i) ns next x (leb-false longest i (p .0)) (q .1) in
+    let r = finished-passed limit (suc i) ns next x (leb-false maxCount i (p .0)) (q .1) in
     ((not-false _ (q .0), r .0), omega (arith, r .1), r .2)

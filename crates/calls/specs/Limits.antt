@@ -4,13 +4,9 @@ use mathlib.Core.Bool.{Bool, true, not, _&&_}
 use mathlib.Core.List.{List, [], _∷_}
 use Prim.Native.Nat.{ℕ, suc, _≤_}
 use lib.Dec.{leb}
+use Rattle.lists.specs.Lists.{All}
 use Rattle.calls.specs.declared.Refusal.{Refusal}
 use Rattle.calls.specs.Calls.{Outcome, check}
-
--- What holds of each element of a list
-abbrev pub All : {A : Type 0} → (A → Type 0) → List A → Type 0
-All P [] = Unit {0}
-All P (x ∷ xs) = P x × All P xs
 
 -- From one number up to another
 abbrev pub within : ℕ → ℕ → ℕ → Bool
@@ -33,14 +29,14 @@ abbrev pub Legal : ℕ → List ℕ → Type 0
 Legal limit row = All (λ n. isNumber limit n ≡ true) row
 
 -- The largest number of a row, how many numbers a row has at most, and how many bytes their encoding has at most
-abbrev pub largest : ℕ
-largest = 4294967295
+abbrev pub maxNumber : ℕ
+maxNumber = 4294967295
 
-abbrev pub longest : ℕ
-longest = 4096
+abbrev pub maxCount : ℕ
+maxCount = 4096
 
-abbrev pub mostBytes : ℕ
-mostBytes = 24064
+abbrev pub maxBytes : ℕ
+maxBytes = 24064
 
 -- The check of each number of a list from a place on; the first at fault decides
 unfoldable pub checkEach : {A : Type 0} → (ℕ → Refusal) → ℕ → ℕ → List ℕ → Outcome A → Outcome A

@@ -7,12 +7,12 @@ use lib.ListN.{length}
 use Rattle.calls.specs.declared.Refusal.{Refusal}
 use Rattle.calls.specs.declared.Refusal.the-variants.{TooManyBytes, TooManyCodewords, TooLarge, NoRoom}
 use Rattle.calls.specs.Calls.{Outcome, accepted, check, andThen}
-use Rattle.calls.specs.Limits.{isNumber, longest}
+use Rattle.calls.specs.Limits.{isNumber, maxCount}
 
 -- A code, as far as reading goes by it
 pub record Code : Type 0 where
   -- how many bytes an encoding has at most
-  pub most : ℕ
+  pub byteLimit : ℕ
   -- the numbers of the codewords of bytes, from the left
   pub numbers : List ℕ → List ℕ
   -- whether the bits or bytes after the last codeword are more than padding, and what that is refused as
@@ -23,7 +23,7 @@ pub record Code : Type 0 where
 unfoldable pub checkFinished : {A : Type 0} → ℕ → ℕ → List ℕ → Outcome A → Outcome A
 checkFinished limit place [] next = next
 checkFinished limit place (n ∷ ns) next =
-    check TooManyCodewords (leb longest place)
+    check TooManyCodewords (leb maxCount place)
     (check (TooLarge place) (not (isNumber limit n))
     (checkFinished limit (suc place) ns next))
 
@@ -36,7 +36,7 @@ contents c limit s =
 
 -- The row of an encoding, which calls go on with once they have checked what they were asked for: 2, then its contents
 unfoldable pub decode : Code → ℕ → List ℕ → Outcome (List ℕ)
-decode c limit s = check TooManyBytes (ltb (c .most) (length s)) (contents c limit s)
+decode c limit s = check TooManyBytes (ltb (c .byteLimit) (length s)) (contents c limit s)
 
 -- A row, or a text, for an output with so much room: 5 the output is shorter; else the count
 abbrev pub counted : ℕ → List ℕ → Outcome ℕ

@@ -112,11 +112,11 @@ pub enum CountAnswer {
 }
 
 // The limits of paper 01: the largest number of a row, how many numbers a row has at most, and how many bytes their encoding has at most.
-pub const LARGEST: u64 = 4294967295;
+pub const MAX_NUMBER: u64 = 4294967295;
 
-pub const LONGEST: usize = 4096;
+pub const MAX_COUNT: usize = 4096;
 
-pub const MOST_BYTES: usize = 24064;
+pub const MAX_BYTES: usize = 24064;
 
 // The check of an order.
 pub fn is_order(order: usize) -> bool

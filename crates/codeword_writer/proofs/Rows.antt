@@ -13,10 +13,10 @@ use Rattle.fibonacci.specs.Code.{size, codeword}
 use Rattle.fibonacci.specs.Encoding.{rowBits}
 use Rattle.calls.specs.declared.Refusal.the-variants.{BadNumber}
 use Rattle.calls.specs.Calls.{accepted, refused}
-use Rattle.calls.specs.Limits.{isNumber, Order, Legal, largest, checkEach}
+use Rattle.calls.specs.Limits.{isNumber, Order, Legal, maxNumber, checkEach}
 use Rattle.calls.proofs.Checks.{number-is, each-more, each-fault}
 use Rattle.fibonacci.proofs.Rows.{bits-append}
-use Rattle.codewords.proofs.Codewords.{stem-long}
+use Rattle.codewords.proofs.Codewords.{body-long}
 
 -- a number more
 pub bits-snoc : (m : ℕ) (row : List ℕ) (n : ℕ) → rowBits m (row ++ (n ∷ [])) ≡ rowBits m row ++ codeword m n
@@ -46,12 +46,12 @@ unfolding rowBits flatten
 bits-end m i row h = rw (drop-of-length-le row {i = i} h)
 
 -- a codeword of a legal number has at most 47 bits
-pub bits-few : (m : ℕ) (row : List ℕ) → Order m → Legal largest row → length (rowBits m row) ≤ 47 * length row
+pub bits-few : (m : ℕ) (row : List ℕ) → Order m → Legal maxNumber row → length (rowBits m row) ≤ 47 * length row
 unfolding rowBits flatten
 bits-few m [] o a = omega arith
 bits-few m (n ∷ row) o a =
-    let p = number-is largest n (a .0) in
-    omega (arith, length-append (codeword m n) (rowBits m row), stem-long m n (size m n n 0) o (p .0) (p .1) refl, bits-few m row o (a .1))
+    let p = number-is maxNumber n (a .0) in
+    omega (arith, length-append (codeword m n) (rowBits m row), body-long m n (size m n n 0) o (p .0) (p .1) refl, bits-few m row o (a .1))
 
 -- ## Measuring
 

@@ -4,8 +4,8 @@ ghost use Prim.Native.Nat.{_≤_};
 ghost use lib.ListN.{length};
 ghost use Rattle.bits.specs.Bits.{unpack, byteCount, putAt};
 ghost use Rattle.fibonacci.specs.Encoding.{rowBits};
-ghost use Rattle.calls.specs.Limits.{Legal, largest, longest};
-ghost use Rattle.codewords.specs.Digits.{Tables};
+ghost use Rattle.calls.specs.Limits.{Legal, maxNumber, maxCount};
+ghost use Rattle.codewords.specs.Leaves.{Tables};
 
 // The codewords of a row from the front of a buffer. They take so many bytes, and fit, as writing has seen. While eight of those are left, a codeword is put over all eight:
 // what stands behind it is written later.
@@ -18,7 +18,7 @@ pub fn put_row(
     order: usize,
     row: &[u32],
 )
-    requires { ⌜ Tables order (now positions) (now firsts) (now low) × (length (now row) ≤ longest) × Legal largest (now row) × (bytes ≡ byteCount (length (rowBits order (now row)))) × (bytes ≤ length (now out)) ⌝ }
+    requires { ⌜ Tables order (now positions) (now firsts) (now low) × (length (now row) ≤ maxCount) × Legal maxNumber (now row) × (bytes ≡ byteCount (length (rowBits order (now row)))) × (bytes ≤ length (now out)) ⌝ }
     ensures { λ r. ⌜ unpack (now (out .exit)) ≡ putAt 0 (rowBits order (now (row .entry))) (unpack (now (out .entry))) ⌝ }
 {
     let mut at: usize = 0;

@@ -13,17 +13,19 @@ use lib.ListN.{length, length-replicate, getD, replicate, getD-replicate}
 use lib.Count.{leadingZeros, leading-top}
 use lib.Pow.{pow-pos, pow-mono, pow-add, shl-exact, shl-shr, ones-lt}
 use borrow.Author.Tests.{le-leb, lt-leb, leb-true}
-use Rattle.bits.specs.Bits.{worth, wordBits, wordOf}
+use Rattle.lists.specs.Lists.{valuesFrom}
+use Rattle.lists.proofs.Lists.{values-at}
+use Rattle.bits.specs.Bits.{bitValue, wordBits, wordOf}
 use Rattle.bits.proofs.Words.{words-cons, words-join, words-zero}
 use Rattle.bits.proofs.Packing.{fit, fit-long, bits-of-word, word-below}
-use Rattle.fibonacci.specs.Code.{valuesFrom, past, F, ones, first, size, digits, codeword}
+use Rattle.fibonacci.specs.Code.{past, F, ones, first, size, digits, codeword}
 use Rattle.calls.proofs.Checks.{both}
-use Rattle.calls.specs.Limits.{largest, Order}
-use Rattle.fibonacci.specs.Tables.{bounded}
-use Rattle.fibonacci.proofs.Numeration.{part, F-suc, part-suc, part-zero, part-none, digits-big, digits-small, digits-append, digits-length, F-rises, F-pos}
+use Rattle.calls.specs.Limits.{maxNumber, Order}
+use Rattle.fibonacci.specs.Tables.{numberOrZero}
+use Rattle.fibonacci.proofs.Numeration.{sumDown, F-suc, sumDown-suc, sumDown-zero, sumDown-none, digits-big, digits-small, digits-append, digits-length, F-rises, F-pos}
 use Rattle.fibonacci.proofs.Numbers.{first-suc, first-rises, first-pos, F-first, codeword-size}
-use Rattle.fibonacci.proofs.Lookup.{values-at, each-order, first-within, bounded-is, bounded-not}
-use Rattle.codewords.specs.Digits.{rate, lowCount, lowWord, lowDigits, Begun}
+use Rattle.fibonacci.proofs.Lookup.{each-order, first-within, number-kept, number-zero}
+use Rattle.codewords.specs.Leaves.{rate, lowCount, lowWord, lowDigits, HighDigits}
 
 -- ## The bits before the last ones
 
@@ -45,7 +47,7 @@ near-at m b o h =
     ∙ getD-replicate 32 b true true h
 
 -- so a guess by the leading zeros of n is near
-pub guess-near : (m n b : ℕ) → Order m → 1 ≤ n → n ≤ largest → b ≡ 63 - leadingZeros 64 n
+pub guess-near : (m n b : ℕ) → Order m → 1 ≤ n → n ≤ maxNumber → b ≡ 63 - leadingZeros 64 n
     → (first m (b * rate m / 8) ≤ n) × (n < first m (b * rate m / 8 + 4)) × (b * rate m / 8 ≤ 42)
 unfolding near
 guess-near m n b o p l e =
@@ -64,31 +66,31 @@ unfolding rate
 rate-small m o = leb-true _ _ (each-order (λ m. leb (rate m) 11) true refl m o)
 
 -- a look-up tells whether a first number is reached
-pub reached-one : (m n d x : ℕ) → x ≡ bounded (first m d) → (x ≡ 0 → ⊥) → x ≤ n → 1 ≡ worth (leb (first m d) n)
+pub reached-one : (m n d x : ℕ) → x ≡ numberOrZero (first m d) → (x ≡ 0 → ⊥) → x ≤ n → 1 ≡ bitValue (leb (first m d) n)
 reached-one m n d x e z l =
-    elim (decLe (first m d) largest) [
-      | yes b ↦ let r : first m d ≤ n = omega (arith, bounded-is _ b) in rw (le-leb _ _ r)
-      | no b ↦ absurd (z (e ∙ bounded-not _ (omega arith)))
+    elim (decLe (first m d) maxNumber) [
+      | yes b ↦ let r : first m d ≤ n = omega (arith, number-kept _ b) in rw (le-leb _ _ r)
+      | no b ↦ absurd (z (e ∙ number-zero _ (omega arith)))
     ]
 
-pub reached-none : (m n d x : ℕ) → n ≤ largest → x ≡ bounded (first m d) → (x ≡ 0) ⊎ (n < x) → 0 ≡ worth (leb (first m d) n)
+pub reached-none : (m n d x : ℕ) → n ≤ maxNumber → x ≡ numberOrZero (first m d) → (x ≡ 0) ⊎ (n < x) → 0 ≡ bitValue (leb (first m d) n)
 reached-none m n d x l e none =
     let above : n < first m d =
-    elim (decLe (first m d) largest) [
-      | yes b ↦ ⊎-elim (λ (z : x ≡ 0). absurd (omega (arith, bounded-is _ b, first-pos m d))) (λ (g : n < x). omega (arith, bounded-is _ b)) none
+    elim (decLe (first m d) maxNumber) [
+      | yes b ↦ ⊎-elim (λ (z : x ≡ 0). absurd (omega (arith, number-kept _ b, first-pos m d))) (λ (g : n < x). omega (arith, number-kept _ b)) none
       | no b ↦ omega arith
     ] in
     rw (lt-leb _ _ above)
 
 -- and the guess, with one for each of the next three that is reached, is the length
-pub stem-is : (m n d : ℕ) → Order m → 1 ≤ n → first m d ≤ n → n < first m (d + 4)
-    → d + worth (leb (first m (d + 1)) n) + worth (leb (first m (d + 2)) n) + worth (leb (first m (d + 3)) n) ≡ size m n n 0
-stem-is m n d o p a b =
+pub body-is : (m n d : ℕ) → Order m → 1 ≤ n → first m d ≤ n → n < first m (d + 4)
+    → d + bitValue (leb (first m (d + 1)) n) + bitValue (leb (first m (d + 2)) n) + bitValue (leb (first m (d + 3)) n) ≡ size m n n 0
+body-is m n d o p a b =
     let s : ℕ = size m n n 0 in
     let w = codeword-size m n (omega arith) p in
     let low : d ≤ s = elim (decLe d s) [ yes l ↦ l | no l ↦ absurd (omega (arith, first-rises m {j = suc s} {k = d} (omega arith))) ] in
     let high : s < d + 4 = elim (decLe (d + 4) s) [ yes l ↦ absurd (omega (arith, first-rises m l)) | no l ↦ omega arith ] in
-    let one : (k : ℕ) → worth (leb (first m k) n) ≡ min 1 (suc s - k) =
+    let one : (k : ℕ) → bitValue (leb (first m k) n) ≡ min 1 (suc s - k) =
     λ k.
     elim (decLe k s) [
       | yes l ↦ let r : first m k ≤ n = omega (arith, first-rises m l) in rw (le-leb _ _ r) (omega arith)
@@ -97,9 +99,9 @@ stem-is m n d o p a b =
     omega (arith, one (d + 1), one (d + 2), one (d + 3))
 
 -- what it finds says how long the codeword is
-pub stem-long : (m n d : ℕ) → Order m → 1 ≤ n → n ≤ largest → d ≡ size m n n 0 → (length (codeword m n) ≡ d + m) × (d + m ≤ 47)
+pub body-long : (m n d : ℕ) → Order m → 1 ≤ n → n ≤ maxNumber → d ≡ size m n n 0 → (length (codeword m n) ≡ d + m) × (d + m ≤ 47)
 unfolding codeword
-stem-long m n d o h l e =
+body-long m n d o h l e =
     let a = codeword-size m n (omega arith) h in
     rw e (
       digits-length m (size m n n 0) _ (ones m) ∙ ap (λ (k : ℕ). size m n n 0 + k) (length-replicate m true),
@@ -122,29 +124,29 @@ word-ones (suc m) =
     ap (wordBits (suc m)) e ∙ words-cons true m (2 ^ m - 1) (ones-lt m) ∙ ap (λ (l : List Bool). true ∷ l) (word-ones m)
 
 -- no position value is more than twice the one before it
-part-more : (m n i : ℕ) → part m n i ≤ part m n (suc i)
-part-more m n zero = omega (arith, part-none m n)
-part-more m zero (suc i) = omega (arith, part-zero m (suc i) (omega arith), part-zero m (suc (suc i)) (omega arith))
-part-more m (suc n) (suc i) = omega (arith, part-suc m n i, part-suc m n (suc i), part-more m n i)
+sumDown-more : (m n i : ℕ) → sumDown m n i ≤ sumDown m n (suc i)
+sumDown-more m n zero = omega (arith, sumDown-none m n)
+sumDown-more m zero (suc i) = omega (arith, sumDown-zero m (suc i) (omega arith), sumDown-zero m (suc (suc i)) (omega arith))
+sumDown-more m (suc n) (suc i) = omega (arith, sumDown-suc m n i, sumDown-suc m n (suc i), sumDown-more m n i)
 
 F-double : (m n : ℕ) → 1 ≤ m → F m (suc n) ≤ 2 * F m n
 F-double zero n p = absurd (omega arith)
-F-double (suc m) zero p = omega (arith, F-suc (suc m) 0, part-zero (suc m) (suc m) (omega arith), F-pos (suc m) 0 p)
-F-double (suc m) (suc n) p = omega (arith, F-suc (suc m) (suc n), part-suc (suc m) n m, F-suc (suc m) n, part-more (suc m) n m)
+F-double (suc m) zero p = omega (arith, F-suc (suc m) 0, sumDown-zero (suc m) (suc m) (omega arith), F-pos (suc m) 0 p)
+F-double (suc m) (suc n) p = omega (arith, F-suc (suc m) (suc n), sumDown-suc (suc m) n m, F-suc (suc m) n, sumDown-more (suc m) n m)
 
-module _ (m n d : ℕ) (o : Order m) (p : 1 ≤ n) (l : n ≤ largest) (e : d ≡ size m n n 0) where
+module _ (m n d : ℕ) (o : Order m) (p : 1 ≤ n) (l : n ≤ maxNumber) (e : d ≡ size m n n 0) where
   -- what is looked up is in the tables
   first-legal : first m d ≤ n
   first-legal = rw e (codeword-size m n (omega arith) p .0)
 
-  pub position-legal : (j : ℕ) → j ≤ d → F m j ≤ largest
+  pub position-legal : (j : ℕ) → j ≤ d → F m j ≤ maxNumber
   position-legal j h = omega (arith, first-legal, F-first m d, F-rises m (omega arith) h)
 
   -- at first all the digits are left
-  pub begun-start : (x : ℕ) → x ≡ bounded (first m d) → (x ≤ n) × Begun m n d d (n - x) (1 * 2 ^ m % 2 ^ 64 - 1)
+  pub high-start : (x : ℕ) → x ≡ numberOrZero (first m d) → (x ≤ n) × HighDigits m n d d (n - x) (1 * 2 ^ m % 2 ^ 64 - 1)
   unfolding codeword
-  begun-start x q =
-      let f : x ≡ first m d = q ∙ bounded-is (first m d) (omega (arith, first-legal)) in
+  high-start x q =
+      let f : x ≡ first m d = q ∙ number-kept (first m d) (omega (arith, first-legal)) in
       let z : m + (d - d) ≡ m = omega arith in
       let below : n < first m (suc d) = rw e (codeword-size m n (omega arith) p .1) in
       rw (f, z, shifted-one m (omega arith)) (
@@ -157,7 +159,7 @@ module _ (m n d : ℕ) (o : Order m) (p : 1 ≤ n) (l : n ≤ largest) (e : d �
       )
 
 -- a digit more
-module _ (m n d j left w f : ℕ) (p : 1 ≤ m) (h : 1 ≤ j) (g : j ≤ d) (q : f ≡ F m j) (b : Begun m n d j left w) where
+module _ (m n d j left w f : ℕ) (p : 1 ≤ m) (h : 1 ≤ j) (g : j ≤ d) (q : f ≡ F m j) (b : HighDigits m n d j left w) where
   back : j ≡ suc (j - 1)
   back = omega arith
 
@@ -173,8 +175,8 @@ module _ (m n d j left w f : ℕ) (p : 1 ≤ m) (h : 1 ≤ j) (g : j ≤ d) (q :
   doubled : F m (suc j) ≤ 2 * f
   doubled = omega (arith, F-double m j p)
 
-  begun-one : f ≤ left → Begun m n d (j - 1) (left - 1 * f) (w + 1 * 2 ^ (m + (d - j)))
-  begun-one big =
+  high-one : f ≤ left → HighDigits m n d (j - 1) (left - 1 * f) (w + 1 * 2 ^ (m + (d - j)))
+  high-one big =
       let v : w + 1 * 2 ^ (m + (d - j)) ≡ 1 * 2 ^ (m + (d - j)) + w = omega arith in
       let r : left - 1 * f ≡ left - F m (suc (j - 1)) = omega (arith, value) in
       rw (longer, v, r, words-cons true (m + (d - j)) w (b .1)) (
@@ -183,8 +185,8 @@ module _ (m n d j left w f : ℕ) (p : 1 ≤ m) (h : 1 ≤ j) (g : j ≤ d) (q :
         omega (arith, value, doubled, b .2),
       )
 
-  begun-zero : left < f → Begun m n d (j - 1) (left - 0 * f) (w + 0 * 2 ^ (m + (d - j)))
-  begun-zero small =
+  high-zero : left < f → HighDigits m n d (j - 1) (left - 0 * f) (w + 0 * 2 ^ (m + (d - j)))
+  high-zero small =
       let v : w + 0 * 2 ^ (m + (d - j)) ≡ 0 * 2 ^ (m + (d - j)) + w = omega arith in
       let r : left - 0 * f ≡ left = omega arith in
       rw (longer, v, r, words-cons false (m + (d - j)) w (b .1)) (
@@ -193,18 +195,18 @@ module _ (m n d j left w f : ℕ) (p : 1 ≤ m) (h : 1 ≤ j) (g : j ≤ d) (q :
         omega (arith, value),
       )
 
-  pub begun-more : (c : ℕ) → d + m ≤ 47 → c ≡ worth (leb f left) → c ≤ 1
-      → (c * f ≤ left) × Begun m n d (j - 1) (left - c * f) (w + c * 2 ^ (m + d - j) % 2 ^ 64)
-  begun-more c long e bit =
+  pub high-more : (c : ℕ) → d + m ≤ 47 → c ≡ bitValue (leb f left) → c ≤ 1
+      → (c * f ≤ left) × HighDigits m n d (j - 1) (left - c * f) (w + c * 2 ^ (m + d - j) % 2 ^ 64)
+  high-more c long e bit =
       let k : m + d - j ≡ m + (d - j) = omega arith in
       rw (k, shifted-bit c (m + (d - j)) bit (omega arith))
       (elim (decLe f left) [
         | yes big ↦
-            let one : c ≡ 1 = e ∙ ap worth (le-leb f left big) in
-            rw one (omega arith, begun-one big)
+            let one : c ≡ 1 = e ∙ ap bitValue (le-leb f left big) in
+            rw one (omega arith, high-one big)
         | no small ↦
-            let zero : c ≡ 0 = e ∙ ap worth (lt-leb f left (omega arith)) in
-            rw zero (omega arith, begun-zero (omega arith))
+            let zero : c ≡ 0 = e ∙ ap bitValue (lt-leb f left (omega arith)) in
+            rw zero (omega arith, high-zero (omega arith))
       ])
 
 -- ## The lowest digits
@@ -288,7 +290,7 @@ low-within m j x o h l =
 -- ## The word
 
 -- the low digits, shifted up and then down again, end up before those above them
-module _ (m n d t left w : ℕ) (o : Order m) (long : d + m ≤ 47) (few : t ≤ 8) (b : Begun m n d (min d t) left w) where
+module _ (m n d t left w : ℕ) (o : Order m) (long : d + m ≤ 47) (few : t ≤ 8) (b : HighDigits m n d (min d t) left w) where
   stop : ℕ
   stop = min d t
 
@@ -306,10 +308,10 @@ module _ (m n d t left w : ℕ) (o : Order m) (long : d + m ≤ 47) (few : t ≤
       ap (λ (v : ℕ). v / 2 ^ t) (shl-exact {a = lowWord m t left} t (d + m) 64 (low-below m t left) (omega arith) ∙ e)
       ∙ shl-shr (lowWord m stop left * 2 ^ below) t
 
-  pub begun-end : (x : ℕ) → x ≡ lowWord m t left
+  pub high-end : (x : ℕ) → x ≡ lowWord m t left
       → (wordBits (d + m) (w + x * 2 ^ (d + m) % 2 ^ 64 / 2 ^ t) ≡ codeword m n) × (w + x * 2 ^ (d + m) % 2 ^ 64 / 2 ^ t < 2 ^ (d + m))
   unfolding stop below
-  begun-end x e =
+  high-end x e =
       let low : ℕ = lowWord m stop left in
       let u : d + m ≡ stop + below = omega arith in
       let v : w + low * 2 ^ below ≡ low * 2 ^ below + w = omega arith in

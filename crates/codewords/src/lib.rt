@@ -3,11 +3,11 @@ ghost use mathlib.Core.Path.{_≡_};
 ghost use Prim.Native.Nat.{_+_, _-_, _^_, _≤_, _<_, min};
 ghost use lib.Dec.{leb};
 ghost use lib.ListN.{length};
-ghost use Rattle.bits.specs.Bits.{worth, wordBits};
+ghost use Rattle.bits.specs.Bits.{bitValue, wordBits};
 ghost use Rattle.fibonacci.specs.Code.{first, size, codeword};
-ghost use Rattle.calls.specs.Limits.{Order, largest};
+ghost use Rattle.calls.specs.Limits.{Order, maxNumber};
 ghost use Rattle.fibonacci.specs.Tables.{Positions, Firsts};
-ghost use Rattle.codewords.specs.Digits.{rate, lowCount, lowDigits, Begun, Tables};
+ghost use Rattle.codewords.specs.Leaves.{rate, lowCount, lowDigits, HighDigits, Tables};
 
 mod tables;
 
@@ -40,31 +40,31 @@ fn rate(order: usize) -> usize
 
 // A first guess at the bits of the codeword of n before its last ones, by the length of n in bits: right, or up to three too few.
 fn guess(order: usize, n: u64) -> usize
-    requires { ⌜ Order order × (1 ≤ n) × (n ≤ largest) ⌝ }
+    requires { ⌜ Order order × (1 ≤ n) × (n ≤ maxNumber) ⌝ }
     ensures { λ r. ⌜ (first order r ≤ n) × (n < first order (r + 4)) × (r ≤ 42) ⌝ }
 {
     let b = 63 - u64::leading_zeros(n) as usize;
     b * rate(order) / 8
 }
 
-// 1 where the first number of d bits before the last ones is at most n, else 0: a number to add, so that `stem` has no branch on n.
-fn reached(firsts: &[u32; 47], order: usize, d: usize, n: u64) -> usize
-    requires { ⌜ Firsts order (now firsts) × (d < 47) × (n ≤ largest) ⌝ }
-    ensures { λ r. ⌜ (r ≡ worth (leb (first order d) n)) × (r ≤ 1) ⌝ }
+// 1 where the first number of d bits before the last ones is at most n, else 0: a number to add, so that `body_length` has no branch on n.
+fn one_if_reached(firsts: &[u32; 47], order: usize, d: usize, n: u64) -> usize
+    requires { ⌜ Firsts order (now firsts) × (d < 47) × (n ≤ maxNumber) ⌝ }
+    ensures { λ r. ⌜ (r ≡ bitValue (leb (first order d) n)) × (r ≤ 1) ⌝ }
 {
     let x = calls::wide(firsts[d]);
     if x != 0 && x <= n { 1 } else { 0 }
 }
 
 // How many bits of the codeword of n stand before its last ones: the largest d whose first number is at most n.
-fn stem(firsts: &[u32; 47], order: usize, n: u64) -> usize
-    requires { ⌜ Firsts order (now firsts) × (1 ≤ n) × (n ≤ largest) ⌝ }
+fn body_length(firsts: &[u32; 47], order: usize, n: u64) -> usize
+    requires { ⌜ Firsts order (now firsts) × (1 ≤ n) × (n ≤ maxNumber) ⌝ }
     ensures { λ r. ⌜ r ≡ size order n n 0 ⌝ }
 {
     let d = guess(order, n);
-    let one = reached(firsts, order, d + 1, n);
-    let two = reached(firsts, order, d + 2, n);
-    let three = reached(firsts, order, d + 3, n);
+    let one = one_if_reached(firsts, order, d + 1, n);
+    let two = one_if_reached(firsts, order, d + 2, n);
+    let three = one_if_reached(firsts, order, d + 3, n);
     d + one + two + three
 }
 
@@ -87,8 +87,8 @@ pub fn low_digits(order: usize) -> [u8; 64]
 // The greedy digit of a position of value f: 1 where f is at most what is left, else 0. What is left comes with 2^32 added, and the difference reaches 2^32
 // exactly where the digit is 1: arithmetic, as the compiler makes a branch of an `if` here, and the loop then takes twice as long.
 fn digit(f: u64, above: u64) -> u64
-    requires { ⌜ (f ≤ largest) × (2 ^ 32 ≤ above) × (above ≤ 2 ^ 32 + largest) ⌝ }
-    ensures { λ r. ⌜ (r ≡ worth (leb f (above - 2 ^ 32))) × (r ≤ 1) ⌝ }
+    requires { ⌜ (f ≤ maxNumber) × (2 ^ 32 ≤ above) × (above ≤ 2 ^ 32 + maxNumber) ⌝ }
+    ensures { λ r. ⌜ (r ≡ bitValue (leb f (above - 2 ^ 32))) × (r ≤ 1) ⌝ }
 {
     (above - f) >> 32
 }
@@ -102,8 +102,8 @@ fn high_digits(
     d: usize,
     low: usize,
 ) -> High
-    requires { ⌜ Positions order (now positions) × Firsts order (now firsts) × (1 ≤ n) × (n ≤ largest) × (d ≡ size order n n 0) ⌝ }
-    ensures { λ r. ⌜ Begun order n d (min d low) (r .left) (r .word) ⌝ }
+    requires { ⌜ Positions order (now positions) × Firsts order (now firsts) × (1 ≤ n) × (n ≤ maxNumber) × (d ≡ size order n n 0) ⌝ }
+    ensures { λ r. ⌜ HighDigits order n d (min d low) (r .left) (r .word) ⌝ }
 {
     let mut w: u64 = (1 << order) - 1;
     let mut above = n - fibonacci::first_number(firsts, order, d) + 4294967296;
@@ -128,7 +128,7 @@ fn word_of(
     n: u64,
     d: usize,
 ) -> u64
-    requires { ⌜ Tables order (now positions) (now firsts) (now low) × (1 ≤ n) × (n ≤ largest) × (d ≡ size order n n 0) ⌝ }
+    requires { ⌜ Tables order (now positions) (now firsts) (now low) × (1 ≤ n) × (n ≤ maxNumber) × (d ≡ size order n n 0) ⌝ }
     ensures { λ r. ⌜ (wordBits (d + order) r ≡ codeword order n) × (r < 2 ^ (d + order)) ⌝ }
 {
     let count = low_count(order);
@@ -140,10 +140,10 @@ fn word_of(
 
 // How many bits the codeword of n has. Whoever asks checks the order and the number before.
 pub fn bit_length(firsts: &[u32; 47], order: usize, n: u64) -> usize
-    requires { ⌜ Firsts order (now firsts) × (1 ≤ n) × (n ≤ largest) ⌝ }
+    requires { ⌜ Firsts order (now firsts) × (1 ≤ n) × (n ≤ maxNumber) ⌝ }
     ensures { λ r. ⌜ (r ≡ length (codeword order n)) × (r ≤ 47) ⌝ }
 {
-    stem(firsts, order, n) + order
+    body_length(firsts, order, n) + order
 }
 
 // The codeword of n. Whoever writes it checks the order and the number before, and has the tables from above.
@@ -154,10 +154,10 @@ pub fn coded(
     order: usize,
     n: u64,
 ) -> Word
-    requires { ⌜ Tables order (now positions) (now firsts) (now low) × (1 ≤ n) × (n ≤ largest) ⌝ }
+    requires { ⌜ Tables order (now positions) (now firsts) (now low) × (1 ≤ n) × (n ≤ maxNumber) ⌝ }
     ensures { λ r. ⌜ (wordBits (r .len) (r .bits) ≡ codeword order n) × (r .bits < 2 ^ r .len) × (r .len ≡ length (codeword order n)) × (1 ≤ r .len) × (r .len ≤ 47) ⌝ }
 {
-    let d = stem(firsts, order, n);
+    let d = body_length(firsts, order, n);
     let bits = word_of(positions, firsts, low, order, n, d);
     let len = d + order;
     Word { bits, len }

@@ -48,7 +48,7 @@ pub fn put_text(out: &mut [u8], at: usize, text: &[u8])
 }
 
 // What a byte counts as a digit.
-fn worth(b: u8) -> u64
+fn digit_value(b: u8) -> u64
     ensures { λ r. ⌜ (r ≡ b - 48) × (r ≤ 207) ⌝ }
 {
     if b < 48 { 0 } else { (b - 48) as u64 }
@@ -61,7 +61,7 @@ pub fn decimal(text: &[u8]) -> u64
 {
     let mut v: u64 = 0;
     for i in 0..text.len() {
-        v = 10 * v + worth(text[i]);
+        v = 10 * v + digit_value(text[i]);
     }
     v
 }

@@ -9,7 +9,7 @@ use answers::Answer;
 use std::num::wrapping_add_usize;
 
 // The most bytes and numbers that a request may have, and have room for. An appended codeword has at most 47 bits.
-const MOST_BYTES: usize = 24080;
+const MAX_BYTES: usize = 24080;
 
 const MOST_NUMBERS: usize = 4100;
 
@@ -139,10 +139,10 @@ fn begin(k: usize, s: &[u8], buf: &mut [u8]) {
 }
 
 fn into_bytes(out: &mut [u8], r: Request, n: &[u64; 5], row: &[u32], s: &[u8]) -> usize {
-    let mut buf = [0xA5u8; MOST_BYTES + APPENDED];
+    let mut buf = [0xA5u8; MAX_BYTES + APPENDED];
     begin(r.k, s, &mut buf);
     let size = r.size;
-    if size > MOST_BYTES + APPENDED {
+    if size > MAX_BYTES + APPENDED {
         return 0;
     }
     bytes_in(out, r, n, row, s, &mut buf[0..size])
@@ -192,7 +192,7 @@ fn each_codeword(out: &mut [u8], order: u64, row: &[u32]) -> usize {
 
 // The codewords of a row that writing accepts.
 fn codewords(out: &mut [u8], order: u64, row: &[u32]) -> usize {
-    let mut buf = [0u8; MOST_BYTES];
+    let mut buf = [0u8; MAX_BYTES];
     let a = requests::write(order, row, &mut buf);
     if a.number != 0 {
         return refusal(out, a);
@@ -240,7 +240,7 @@ fn with_list(out: &mut [u8], r: Request, n: &[u64; 5], row: &[u32], s: &[u8]) ->
 
 // A room that is named, where there is an output and it may be so large; else more than any.
 fn exactly(k: usize, n: u64) -> usize {
-    if requests::writes_bytes(k) && n <= MOST_BYTES as u64 {
+    if requests::writes_bytes(k) && n <= MAX_BYTES as u64 {
         return n as usize;
     }
     if requests::writes_row(k) && n <= MOST_NUMBERS as u64 {
@@ -256,7 +256,7 @@ fn enough(k: usize, len: usize) -> usize {
     if requests::writes_row(k) {
         MOST_NUMBERS
     } else {
-        MOST_BYTES
+        MAX_BYTES
     }
 }
 
@@ -286,8 +286,8 @@ fn request_of(k: usize, room: Room, len: usize) -> Request {
 
 // The row or the bytes from a place of the line on.
 fn listed(out: &mut [u8], k: usize, room: Room, n: &[u64; 5], line: &[u8], at: usize) -> usize {
-    let mut list = [0u32; MOST_BYTES];
-    let mut s = [0u8; MOST_BYTES];
+    let mut list = [0u32; MAX_BYTES];
+    let mut s = [0u8; MAX_BYTES];
     let has_row = requests::has_row(k);
     let Found::Count(count) = words::elements(!has_row, line, at, &mut list) else {
         return 0;
@@ -296,13 +296,13 @@ fn listed(out: &mut [u8], k: usize, room: Room, n: &[u64; 5], line: &[u8], at: u
     let numbers = if has_row { count } else { 0 };
     let bytes = if has_row { 0 } else { count };
     let r = request_of(k, room, count);
-    if numbers > MOST_BYTES {
+    if numbers > MAX_BYTES {
         return 0;
     }
-    if bytes > MOST_BYTES {
+    if bytes > MAX_BYTES {
         return 0;
     }
-    if r.size > MOST_BYTES + APPENDED {
+    if r.size > MAX_BYTES + APPENDED {
         return 0;
     }
     with_list(out, r, n, &list[0..numbers], &s[0..bytes])

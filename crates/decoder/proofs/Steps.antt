@@ -17,22 +17,22 @@ use Rattle.fibonacci.proofs.Parse.{onto, onto-parsed, parse-rest}
 use Rattle.fibonacci.proofs.Rows.{row-numbers, bits-parse, bits-numbers}
 use Rattle.calls.specs.declared.Refusal.the-variants.{TooManyCodewords, TooLarge, BadRest}
 use Rattle.calls.specs.Calls.{accepted, refused}
-use Rattle.calls.specs.Limits.{Order, isNumber, Legal, largest, longest}
+use Rattle.calls.specs.Limits.{Order, isNumber, Legal, maxNumber, maxCount}
 use Rattle.calls.specs.Reading.{contents}
 use Rattle.calls.proofs.Checks.{number-is, positive}
 use Rattle.reading.specs.Reading.{fibonacci}
 use Rattle.reading.proofs.Checking.{Padding, padding-is, padding-not, contents-many, contents-large, contents-rest, contents-good, Numbered, numbered-legal, numbered-large}
-use Rattle.word_decoder.specs.Words.{Begun, Taken}
+use Rattle.word_decoder.specs.Leaves.{DecodedPrefix, Taken}
 use Rattle.word_decoder.proofs.Taking.{taken-more}
-use Rattle.word_decoder.proofs.Spans.{begun-end}
+use Rattle.word_decoder.proofs.Spans.{decoded-end}
 use Rattle.bit_decoder.specs.declared.Next.{Next}
-use Rattle.bit_decoder.specs.Sought.{Sought}
+use Rattle.bit_decoder.specs.Leaves.{Sought}
 
 -- ## The next codeword
 
 -- Up to a bit stand the codewords of a row, and from there on it was sought
 module _ (s : List ℕ) {m limit bit count : ℕ} {row : List ℕ} {r : Next} (o : Order m) (t : Sought m (unpack s) bit r)
-    (g : Begun m limit (unpack s) bit count row) where
+    (g : DecodedPrefix m limit (unpack s) bit count row) where
   abbrev b : List Bool
   b = unpack s
 
@@ -45,7 +45,7 @@ module _ (s : List ℕ) {m limit bit count : ℕ} {row : List ℕ} {r : Next} (o
   -- a codeword ends
   module _ (last : m ≤ r .run) where
     abbrev ended : List Bool
-    ended = t .stem ++ ones m
+    ended = t .body ++ ones m
 
     abbrev behind : List Bool
     behind = drop (r .bit) b
@@ -57,10 +57,10 @@ module _ (s : List ℕ) {m limit bit count : ℕ} {row : List ℕ} {r : Next} (o
     coded = t .ended last .1
 
     cut : drop bit b ≡ ended ++ behind
-    cut = t .bits ∙ ap (λ (n : ℕ). (t .stem ++ ones n) ++ behind) (t .ended last .0)
+    cut = t .bits ∙ ap (λ (n : ℕ). (t .body ++ ones n) ++ behind) (t .ended last .0)
 
-    x-is : x ≡ first m (r .len) + value m 1 (t .stem)
-    x-is = number-of m (t .stem) ∙ ap (λ (l : ℕ). first m l + value m 1 (t .stem)) (t .long)
+    x-is : x ≡ first m (r .len) + value m 1 (t .body)
+    x-is = number-of m (t .body) ∙ ap (λ (l : ℕ). first m l + value m 1 (t .body)) (t .long)
 
     -- so the numbers go on with its number
     go-on : numbers m b ≡ row ++ (x ∷ numbers m behind)
@@ -71,15 +71,15 @@ module _ (s : List ℕ) {m limit bit count : ℕ} {row : List ℕ} {r : Next} (o
         ∙ ap (λ (l : List ℕ). row ++ l)
         (ap (numbers m) (cut ∙ ap (λ (c : List Bool). c ++ behind) (sym (alone ∙ own .0))) ∙ bits-numbers m (x ∷ []) behind pos (own .1, tt))
 
-    pub step-many : count ≡ longest → contents (fibonacci m) limit s ≡ refused TooManyCodewords
+    pub step-many : count ≡ maxCount → contents (fibonacci m) limit s ≡ refused TooManyCodewords
     step-many c = contents-many limit m s row (g .taken .legal) x (numbers m behind) go-on (g .many ∙ c)
 
     -- n was found for its number
-    module _ (n : ℕ) (is : Numbered m (r .len) (r .val) n) (top : limit ≤ largest) (less : count ≡ longest → ⊥) where
-      near : first m (r .len) ≤ largest → x ≡ first m (r .len) + r .val
+    module _ (n : ℕ) (is : Numbered m (r .len) (r .val) n) (top : limit ≤ maxNumber) (less : count ≡ maxCount → ⊥) where
+      near : first m (r .len) ≤ maxNumber → x ≡ first m (r .len) + r .val
       near h = omega (arith, x-is, t .worth h)
 
-      far : largest < first m (r .len) → largest < x
+      far : maxNumber < first m (r .len) → maxNumber < x
       far h = omega (arith, x-is)
 
       pub step-large : isNumber limit n ≡ false → contents (fibonacci m) limit s ≡ refused (TooLarge count)
@@ -87,10 +87,10 @@ module _ (s : List ℕ) {m limit bit count : ℕ} {row : List ℕ} {r : Next} (o
           contents-large limit m s row (g .taken .legal) x (numbers m behind) go-on (omega (arith, g .many, g .most))
           (numbered-large m (r .len) (r .val) n is x near far limit top l) ∙ ap (λ (k : ℕ). refused (TooLarge k)) (g .many)
 
-      pub step-number : isNumber limit n ≡ true → (count < longest) × Begun m limit b (r .bit) (count + 1) (row ++ (n ∷ []))
+      pub step-number : isNumber limit n ≡ true → (count < maxCount) × DecodedPrefix m limit b (r .bit) (count + 1) (row ++ (n ∷ []))
       step-number l =
           let size : ℕ = r .len + r .run in
-          let long : length ended ≡ size = omega (arith, length-append (t .stem) (ones m), length-replicate m true, t .long, t .ended last .0) in
+          let long : length ended ≡ size = omega (arith, length-append (t .body) (ones m), length-replicate m true, t .long, t .ended last .0) in
           let word : take size (drop bit b) ≡ ended = ap (take size) cut ∙ take-at ended behind size long in
           let same : n ≡ x = numbered-legal m (r .len) (r .val) n is x near far limit top l in (
             omega (arith, g .most),
@@ -110,7 +110,7 @@ module _ (s : List ℕ) {m limit bit count : ℕ} {row : List ℕ} {r : Next} (o
     words = map (codeword m) row
 
     abbrev rest : List Bool
-    rest = t .stem ++ ones (r .run)
+    rest = t .body ++ ones (r .run)
 
     rest-is : parse m b ≡ parsed words rest
     rest-is =
@@ -119,20 +119,20 @@ module _ (s : List ℕ) {m limit bit count : ℕ} {row : List ℕ} {r : Next} (o
         (ap (parse m) (t .bits ∙ ap (λ (d : List Bool). rest ++ d) (drop-of-length-le b (t .left less .0)) ∙ append-nil rest) ∙ parse-rest m rest pos (t .left less .1))
         ∙ onto-parsed words rest
 
-    short : r .len < 8 → (length (t .stem) ≡ r .len) × (r .val ≡ value m 1 (t .stem))
+    short : r .len < 8 → (length (t .body) ≡ r .len) × (r .val ≡ value m 1 (t .body))
     short l = (t .long, t .worth (first-few m (r .len) o (omega arith)))
 
-    far-off : 8 ≤ r .len → 8 ≤ length (t .stem)
+    far-off : 8 ≤ r .len → 8 ≤ length (t .body)
     far-off l = omega (arith, t .long)
 
     pub step-rest : Padding (r .len) (r .val) (r .run) ≡ false → contents (fibonacci m) limit s ≡ refused BadRest
     step-rest e =
         contents-rest limit m s row (g .taken .legal) words rest rest-is (row-numbers m row pos row-positive) (omega (arith, g .many, g .most))
-        (padding-not m (t .stem) (r .len) (r .val) (r .run) pos short far-off e)
+        (padding-not m (t .body) (r .len) (r .val) (r .run) pos short far-off e)
 
     pub step-end : Padding (r .len) (r .val) (r .run) ≡ true → contents (fibonacci m) limit s ≡ accepted row
     step-end e =
-        let q = padding-is m (t .stem) (r .len) (r .val) (r .run) pos short far-off e in
+        let q = padding-is m (t .body) (r .len) (r .val) (r .run) pos short far-off e in
         contents-good limit m s row (g .taken .legal) words rest rest-is (row-numbers m row pos row-positive) (omega (arith, g .many, g .most)) (q .0) (q .1)
 
 -- ## How many numbers so many bytes hold
@@ -150,8 +150,8 @@ bits-least m (n ∷ row) h =
       bits-least m row h,
     )
 
-pub begun-few : (s : List ℕ) {m limit bit count : ℕ} {row : List ℕ} → 2 ≤ m → Begun m limit (unpack s) bit count row → count ≤ 4 * length s
-begun-few s {m} {limit} {bit} {count} {row} h g = omega (arith, bits-least m row h, begun-end g, g .many, g .taken .within, unpack-length s)
+pub decoded-few : (s : List ℕ) {m limit bit count : ℕ} {row : List ℕ} → 2 ≤ m → DecodedPrefix m limit (unpack s) bit count row → count ≤ 4 * length s
+decoded-few s {m} {limit} {bit} {count} {row} h g = omega (arith, bits-least m row h, decoded-end g, g .many, g .taken .within, unpack-length s)
 
 -- the last number of a legal row is at most the limit
 pub last-legal : (limit : ℕ) (row : List ℕ) (n : ℕ) → Legal limit (row ++ (n ∷ [])) → n ≤ limit

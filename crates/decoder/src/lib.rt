@@ -5,13 +5,13 @@ ghost use lib.Dec.{ltb};
 ghost use lib.ListN.{length};
 ghost use Rattle.bits.specs.Bits.{unpack};
 ghost use Rattle.calls.specs.Calls.{accepted, andThen, countOutcome};
-ghost use Rattle.calls.specs.Limits.{Order, largest, longest, mostBytes};
+ghost use Rattle.calls.specs.Limits.{Order, maxNumber, maxCount, maxBytes};
 ghost use Rattle.calls.specs.Reading.{decode};
 ghost use Rattle.fibonacci.specs.Tables.{Firsts};
-ghost use Rattle.word_decoder.specs.Words.{Spanned, Stored};
+ghost use Rattle.word_decoder.specs.Leaves.{Spanned, StoredRow};
 ghost use Rattle.reading.specs.Reading.{fibonacci};
 ghost use Rattle.reading.specs.Answers.{ReadPromise, Begins};
-ghost use Rattle.decoder.specs.Spans.{found, spanOutcome, Leads};
+ghost use Rattle.decoder.specs.Leaves.{summary, spanOutcome, Leads};
 
 // So many bytes are read by words, and fewer bit by bit: sooner than a table of values is made.
 const WORDS_FROM: usize = 17;
@@ -24,7 +24,7 @@ enum Step {
 }
 
 // What is told of a row: how many numbers it has, how many bits they take, the sum of those of a span and of all, and the bit where the span begins.
-pub struct Found {
+pub struct Summary {
     pub count: usize,
     pub bits: usize,
     pub total: u64,
@@ -33,15 +33,15 @@ pub struct Found {
 }
 
 pub enum SpanAnswer {
-    Row(Found),
+    Row(Summary),
     Refused(calls::Refusal),
 }
 
 // The check of an encoding's length.
 fn too_long(s: &[u8]) -> bool
-    ensures { λ r. ⌜ r ≡ ltb mostBytes (length (now (s .entry))) ⌝ }
+    ensures { λ r. ⌜ r ≡ ltb maxBytes (length (now (s .entry))) ⌝ }
 {
-    s.len() > calls::MOST_BYTES
+    s.len() > calls::MAX_BYTES
 }
 
 // What stands from a bit on, after so many numbers: 4 is checked before 7, and 6 where no codeword is left.
@@ -53,7 +53,7 @@ fn next_number(
     bit: usize,
     count: usize,
 ) -> Step
-    requires { ⌜ Firsts order (now firsts) × (length (now s) ≤ mostBytes) × (limit ≤ largest) × (bit ≤ 8 * length (now s)) ⌝ }
+    requires { ⌜ Firsts order (now firsts) × (length (now s) ≤ maxBytes) × (limit ≤ maxNumber) × (bit ≤ 8 * length (now s)) ⌝ }
     ensures { λ r. ⌜ Leads order limit (now (s .entry)) bit count r ⌝ }
 {
     let next = bit_decoder::seek(firsts, order, s, bit);
@@ -63,7 +63,7 @@ fn next_number(
         }
         return Step::Refused(calls::Refusal::BadRest);
     }
-    if count == calls::LONGEST {
+    if count == calls::MAX_COUNT {
         return Step::Refused(calls::Refusal::TooManyCodewords);
     }
     let n = reading::number(firsts, order, next.len, next.val);
@@ -80,12 +80,12 @@ fn store_words(
     s: &[u8],
     limit: u64,
     row: &mut [u32],
-) -> word_decoder::Front
-    requires { ⌜ Firsts order (now firsts) × (length (now s) ≤ mostBytes) × (limit ≤ largest) ⌝ }
-    ensures { λ r. ⌜ Stored order limit (unpack (now (s .entry))) (now (row .entry)) (now (row .exit)) r ⌝ }
+) -> word_decoder::Progress
+    requires { ⌜ Firsts order (now firsts) × (length (now s) ≤ maxBytes) × (limit ≤ maxNumber) ⌝ }
+    ensures { λ r. ⌜ StoredRow order limit (unpack (now (s .entry))) (now (row .entry)) (now (row .exit)) r ⌝ }
 {
     if s.len() < WORDS_FROM {
-        return word_decoder::Front { bit: 0, count: 0 };
+        return word_decoder::Progress { bit: 0, count: 0 };
     }
     word_decoder::take_row(firsts, order, s, limit, row)
 }
@@ -98,12 +98,12 @@ fn sum_words(
     limit: u64,
     from: usize,
     to: usize,
-) -> word_decoder::Reach
-    requires { ⌜ Firsts order (now firsts) × (length (now s) ≤ mostBytes) × (limit ≤ largest) ⌝ }
+) -> word_decoder::SpanProgress
+    requires { ⌜ Firsts order (now firsts) × (length (now s) ≤ maxBytes) × (limit ≤ maxNumber) ⌝ }
     ensures { λ r. ⌜ Spanned order limit from to (unpack (now (s .entry))) r ⌝ }
 {
     if s.len() < WORDS_FROM {
-        return word_decoder::Reach {
+        return word_decoder::SpanProgress {
             bit: 0,
             count: 0,
             sum: 0,
@@ -117,7 +117,7 @@ fn sum_words(
 // Stores the row of an encoding in a list with room for every row that so many bytes can hold: no codeword is shorter than two bits. Each operation checks its
 // order before, and its limit is at most 4,294,967,295.
 pub fn store_row(order: usize, s: &[u8], limit: u64, row: &mut [u32]) -> calls::CountAnswer
-    requires { ⌜ Order order × (limit ≤ largest) × (min longest (4 * length (now s)) ≤ length (now row)) ⌝ }
+    requires { ⌜ Order order × (limit ≤ maxNumber) × (min maxCount (4 * length (now s)) ≤ length (now row)) ⌝ }
     ensures { λ r. ⌜ (countOutcome r ≡ andThen (decode (fibonacci order) limit (now (s .entry))) (λ row. accepted (length row))) × Begins (decode (fibonacci order) limit (now (s .entry))) (now (row .exit)) ⌝ }
 {
     if too_long(s) {
@@ -144,8 +144,8 @@ pub fn store_row(order: usize, s: &[u8], limit: u64, row: &mut [u32]) -> calls::
 // What is told of the row of an encoding and of a span of it, from one place up to but without another; the row itself goes nowhere. Each operation checks its
 // order before, and its limit is at most 4,294,967,295.
 pub fn sum_span(order: usize, s: &[u8], limit: u64, from: usize, to: usize) -> SpanAnswer
-    requires { ⌜ Order order × (limit ≤ largest) ⌝ }
-    ensures { λ r. ⌜ spanOutcome r ≡ andThen (decode (fibonacci order) limit (now (s .entry))) (λ row. accepted (found order from to row)) ⌝ }
+    requires { ⌜ Order order × (limit ≤ maxNumber) ⌝ }
+    ensures { λ r. ⌜ spanOutcome r ≡ andThen (decode (fibonacci order) limit (now (s .entry))) (λ row. accepted (summary order from to row)) ⌝ }
 {
     if too_long(s) {
         return SpanAnswer::Refused(calls::Refusal::TooManyBytes);
@@ -161,13 +161,13 @@ pub fn sum_span(order: usize, s: &[u8], limit: u64, from: usize, to: usize) -> S
         let next = next_number(&firsts, order, s, limit, bits, count);
         match next {
             Step::Number(n, after) => {
-                total += word_decoder::counted(n, from, to, count);
+                total += word_decoder::count_in_span(n, from, to, count);
                 all += n;
                 bits = after;
                 count += 1;
-                start = word_decoder::begins(start, from, count, bits);
+                start = word_decoder::start_of_place(start, from, count, bits);
             }
-            Step::End => return SpanAnswer::Row(Found {
+            Step::End => return SpanAnswer::Row(Summary {
                 count,
                 bits,
                 total,
@@ -189,10 +189,10 @@ pub fn read(order: usize, s: &[u8], out: &mut [u32]) -> calls::CountAnswer
     }
     if s.len() <= 16 {
         let mut few: [u32; 64] = [0; 64];
-        let scanned = store_row(order, s, calls::LARGEST, &mut few);
+        let scanned = store_row(order, s, calls::MAX_NUMBER, &mut few);
         return reading::deliver(scanned, &few, out);
     }
-    let mut row: [u32; calls::LONGEST] = [0; calls::LONGEST];
-    let scanned = store_row(order, s, calls::LARGEST, &mut row);
+    let mut row: [u32; calls::MAX_COUNT] = [0; calls::MAX_COUNT];
+    let scanned = store_row(order, s, calls::MAX_NUMBER, &mut row);
     reading::deliver(scanned, &row, out)
 }

@@ -1,7 +1,7 @@
 // What a byte is worth as eight digits in order 2 to 6, at each of six places: a constant table for each order.
 ghost use mathlib.Core.Path.{_≡_};
 ghost use Rattle.calls.specs.Limits.{Order};
-ghost use Rattle.digit_tables.specs.Values.{byteValues};
+ghost use Rattle.digit_tables.specs.Leaves.{byteValues};
 
 mod tables;
 

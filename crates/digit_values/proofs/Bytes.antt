@@ -9,37 +9,37 @@ use lib.ListN.{length, getD, take, drop, replicate, length-take, List·getD-appe
 use lib.Seq.{take-at, drop-at, getD-take, getD-drop, getD-append-add}
 use lib.Pow.{pow-pos, high, shr-shr, shr-mod, ones-lt, ones-split}
 use lib.Bits.{bitAnd, and-high}
+use Rattle.lists.proofs.Lists.{values-at}
 use Rattle.bits.specs.Bits.{wordBits}
 use Rattle.bits.proofs.Words.{words-length, words-split, words-padded}
 use Rattle.fibonacci.specs.Code.{value}
-use Rattle.calls.specs.Limits.{largest}
+use Rattle.calls.specs.Limits.{maxNumber}
 use Rattle.fibonacci.proofs.Numbers.{value-append}
-use Rattle.fibonacci.proofs.Lookup.{values-at}
-use Rattle.digit_tables.specs.Values.{byteValue, byteValues}
-use Rattle.digit_values.specs.Values.{Capped}
+use Rattle.digit_tables.specs.Leaves.{byteValue, byteValues}
+use Rattle.digit_values.specs.Leaves.{Saturated}
 
 -- ## A look-up
 
-pub entry-at : (m c b : ℕ) → c < 6 → b < 256 → getD (byteValues m) (256 * c + b) 0 ≡ min largest (value m (8 * c + 1) (wordBits 8 b))
+pub entry-at : (m c b : ℕ) → c < 6 → b < 256 → getD (byteValues m) (256 * c + b) 0 ≡ min maxNumber (value m (8 * c + 1) (wordBits 8 b))
 unfolding byteValues byteValue
 entry-at m c b h l =
     let i : ℕ = 0 + (256 * c + b) in
     let q : i / 256 ≡ c = omega arith in
     let r : i % 256 ≡ b = omega arith in
-    values-at (byteValue m) 0 1536 (256 * c + b) 0 (omega arith) ∙ ap₂ (λ (q r : ℕ). min largest (value m (8 * q + 1) (wordBits 8 r))) q r
+    values-at (byteValue m) 0 1536 (256 * c + b) 0 (omega arith) ∙ ap₂ (λ (q r : ℕ). min maxNumber (value m (8 * q + 1) (wordBits 8 r))) q r
 
 -- ## Sums of look-ups
 
-pub capped-is : (v r : ℕ) → r ≡ min largest v → Capped v r
-capped-is v r e = (λ h. omega arith, λ h. omega arith)
+pub saturated-is : (v r : ℕ) → r ≡ min maxNumber v → Saturated v r
+saturated-is v r e = (λ h. omega arith, λ h. omega arith)
 
-capped-add : (v u r s : ℕ) → Capped v r → Capped u s → Capped (v + u) (r + s)
-capped-add v u r s a b = (
+saturated-add : (v u r s : ℕ) → Saturated v r → Saturated u s → Saturated (v + u) (r + s)
+saturated-add v u r s a b = (
   λ h. omega (arith, a .0 (omega arith), b .0 (omega arith)),
   λ h.
-      elim (decLe v largest) [
+      elim (decLe v maxNumber) [
         | yes i ↦
-            elim (decLe u largest) [
+            elim (decLe u maxNumber) [
               | yes j ↦ omega (arith, a .0 i, b .0 j)
               | no j ↦ omega (arith, b .1 (omega arith))
             ]
@@ -54,16 +54,16 @@ value-split m j a b x =
     ∙ ap (λ (k : ℕ). value m j (wordBits a (x / 2 ^ b)) + value m (j + k) (wordBits b x)) (words-length a (x / 2 ^ b))
 
 -- digits one after the other in a word
-pub capped-join : (m j a b x k r s : ℕ) → Capped (value m j (wordBits a (x / 2 ^ (k + b)))) r → Capped (value m (j + a) (wordBits b (x / 2 ^ k))) s
-    → Capped (value m j (wordBits (a + b) (x / 2 ^ k))) (r + s)
-capped-join m j a b x k r s p q =
+pub saturated-join : (m j a b x k r s : ℕ) → Saturated (value m j (wordBits a (x / 2 ^ (k + b)))) r → Saturated (value m (j + a) (wordBits b (x / 2 ^ k))) s
+    → Saturated (value m j (wordBits (a + b) (x / 2 ^ k))) (r + s)
+saturated-join m j a b x k r s p q =
     rw (value-split m j a b (x / 2 ^ k), shr-shr x k b)
-    (capped-add (value m j (wordBits a (x / 2 ^ (k + b)))) (value m (j + a) (wordBits b (x / 2 ^ k))) r s p q)
+    (saturated-add (value m j (wordBits a (x / 2 ^ (k + b)))) (value m (j + a) (wordBits b (x / 2 ^ k))) r s p q)
 
 -- a byte more
-pub capped-byte : (m j a x k r s : ℕ) → Capped (value m j (wordBits a (x / 2 ^ (k + 8)))) r → s ≡ min largest (value m (j + a) (wordBits 8 (x / 2 ^ k)))
-    → Capped (value m j (wordBits (a + 8) (x / 2 ^ k))) (r + s)
-capped-byte m j a x k r s p e = capped-join m j a 8 x k r s p (capped-is _ s e)
+pub saturated-byte : (m j a x k r s : ℕ) → Saturated (value m j (wordBits a (x / 2 ^ (k + 8)))) r → s ≡ min maxNumber (value m (j + a) (wordBits 8 (x / 2 ^ k)))
+    → Saturated (value m j (wordBits (a + 8) (x / 2 ^ k))) (r + s)
+saturated-byte m j a x k r s p e = saturated-join m j a 8 x k r s p (saturated-is _ s e)
 
 -- ## The first bits of a word
 
@@ -143,6 +143,6 @@ module _ (w len : ℕ) (short : len ≤ 64) where
         ap (λ (n : ℕ). value m 1 (wordBits n cut)) e ∙ value-split m 1 t (64 - t) cut in
         omega (arith, value-none m (1 + length b) z (zeros-at (64 - len)), value-none m (1 + t) (wordBits (64 - t) cut) behind)
 
-    pub capped-first : (m x r : ℕ) → x ≡ w / 2 ^ (64 - len) * 2 ^ (64 - len) → Capped (value m 1 (wordBits t (x / 2 ^ (64 - t)))) r
-        → Capped (value m 1 (take len (wordBits 64 w))) r
-    capped-first m x r e p = rw (value-first m, ← e) p
+    pub saturated-first : (m x r : ℕ) → x ≡ w / 2 ^ (64 - len) * 2 ^ (64 - len) → Saturated (value m 1 (wordBits t (x / 2 ^ (64 - t)))) r
+        → Saturated (value m 1 (take len (wordBits 64 w))) r
+    saturated-first m x r e p = rw (value-first m, ← e) p

@@ -5,14 +5,14 @@ ghost use Prim.Native.Nat.{_+_, _-_, _*_, _/_, _^_, _≤_, _<_, min};
 ghost use lib.ListN.{take, getD};
 ghost use Rattle.bits.specs.Bits.{wordBits};
 ghost use Rattle.fibonacci.specs.Code.{value};
-ghost use Rattle.calls.specs.Limits.{largest, Order};
-ghost use Rattle.digit_tables.specs.Values.{byteValues};
-ghost use Rattle.digit_values.specs.Values.{Capped};
+ghost use Rattle.calls.specs.Limits.{maxNumber, Order};
+ghost use Rattle.digit_tables.specs.Leaves.{byteValues};
+ghost use Rattle.digit_values.specs.Leaves.{Saturated};
 
 // What byte c of x is worth, its top bit being digit 8 c + 1; the largest number where that is above.
 fn entry(values: &[u32; 1536], order: usize, c: usize, x: u64) -> u64
     requires { ⌜ (now values ≡ byteValues order) × (c < 6) ⌝ }
-    ensures { λ r. ⌜ (r ≡ min largest (value order (8 * c + 1) (wordBits 8 (x / 2 ^ (56 - 8 * c))))) × (r ≤ largest) ⌝ }
+    ensures { λ r. ⌜ (r ≡ min maxNumber (value order (8 * c + 1) (wordBits 8 (x / 2 ^ (56 - 8 * c))))) × (r ≤ maxNumber) ⌝ }
 {
     let byte = (x >> (56 - 8 * c)) as usize % 256;
     calls::wide(values[256 * c + byte])
@@ -21,7 +21,7 @@ fn entry(values: &[u32; 1536], order: usize, c: usize, x: u64) -> u64
 // The first two bytes of x.
 fn first_two(values: &[u32; 1536], order: usize, x: u64) -> u64
     requires { ⌜ now values ≡ byteValues order ⌝ }
-    ensures { λ r. ⌜ Capped (value order 1 (wordBits 16 (x / 2 ^ 48))) r × (r ≤ 2 * largest) ⌝ }
+    ensures { λ r. ⌜ Saturated (value order 1 (wordBits 16 (x / 2 ^ 48))) r × (r ≤ 2 * maxNumber) ⌝ }
 {
     entry(values, order, 0, x) + entry(values, order, 1, x)
 }
@@ -29,7 +29,7 @@ fn first_two(values: &[u32; 1536], order: usize, x: u64) -> u64
 // The four bytes after them.
 fn next_four(values: &[u32; 1536], order: usize, x: u64) -> u64
     requires { ⌜ now values ≡ byteValues order ⌝ }
-    ensures { λ r. ⌜ Capped (value order 17 (wordBits 32 (x / 2 ^ 16))) r × (r ≤ 4 * largest) ⌝ }
+    ensures { λ r. ⌜ Saturated (value order 17 (wordBits 32 (x / 2 ^ 16))) r × (r ≤ 4 * maxNumber) ⌝ }
 {
     entry(values, order, 2, x)
         + entry(values, order, 3, x)
@@ -49,7 +49,7 @@ fn masked(w: u64, len: usize) -> u64
 // enough for nine bits. The reader has the table from `digit_tables`, and shows that the word begins with such a stem.
 pub fn byte_value(values: &[u32; 1536], order: usize, w: u64, len: usize) -> u64
     requires { ⌜ Order order × (now values ≡ byteValues order) × (len ≤ 9) × (1 ≤ len → getD (wordBits 64 w) (len - 1) false ≡ false) ⌝ }
-    ensures { λ r. ⌜ Capped (value order 1 (take len (wordBits 64 w))) r × (r ≤ largest) ⌝ }
+    ensures { λ r. ⌜ Saturated (value order 1 (take len (wordBits 64 w))) r × (r ≤ maxNumber) ⌝ }
 {
     entry(values, order, 0, masked(w, len))
 }
@@ -57,7 +57,7 @@ pub fn byte_value(values: &[u32; 1536], order: usize, w: u64, len: usize) -> u64
 // The same of any stem of a legal number, by two bytes for up to 17 bits.
 pub fn value(values: &[u32; 1536], order: usize, w: u64, len: usize) -> u64
     requires { ⌜ Order order × (now values ≡ byteValues order) × (len ≤ 46) × (1 ≤ len → getD (wordBits 64 w) (len - 1) false ≡ false) ⌝ }
-    ensures { λ r. ⌜ Capped (value order 1 (take len (wordBits 64 w))) r × (r ≤ 6 * largest) ⌝ }
+    ensures { λ r. ⌜ Saturated (value order 1 (take len (wordBits 64 w))) r × (r ≤ 6 * maxNumber) ⌝ }
 {
     let x = masked(w, len);
     let two = first_two(values, order, x);

@@ -14,7 +14,7 @@ use Rattle.fibonacci.specs.Encoding.{rowBits, encoding}
 use Rattle.calls.specs.declared.Refusal.{Refusal}
 use Rattle.calls.specs.declared.Refusal.the-variants.{BadOrder, BadNumber, TooManyNumbers, NoRoom}
 use Rattle.calls.specs.Calls.{Outcome, accepted, refused, buffer}
-use Rattle.calls.specs.Limits.{isOrder, Order, Legal, largest, longest, checkEach}
+use Rattle.calls.specs.Limits.{isOrder, Order, Legal, maxNumber, maxCount, checkEach}
 use Rattle.calls.proofs.Checks.{order-is, is-order, check-passed, accepted-one, each-passed, each-accepted, each-refused}
 use Rattle.codeword_writer.proofs.Rows.{bits-few}
 use Rattle.encoder.specs.Writing.{write, writeInto}
@@ -28,8 +28,8 @@ bytes-are m row = pack-length (rowBits m row)
 -- a row that writing accepts
 pub record Writable (m : ℕ) (row : List ℕ) (room : ℕ) : Type 0 where
   pub order : Order m
-  pub count : length row ≤ longest
-  pub legal : Legal largest row
+  pub count : length row ≤ maxCount
+  pub legal : Legal maxNumber row
   pub fits : length (encoding m row) ≤ room
 
 pub write-is : (m : ℕ) (row : List ℕ) (room bytes bits : ℕ) → write m row room ≡ accepted (bytes, bits)
@@ -37,13 +37,13 @@ pub write-is : (m : ℕ) (row : List ℕ) (room bytes bits : ℕ) → write m ro
 unfolding write
 write-is m row room bytes bits e =
     let p1 = check-passed BadOrder (not (isOrder m)) _ _ e in
-    let p4 = check-passed TooManyNumbers (ltb longest (length row)) _ _ (p1 .1) in
-    let p3 = each-accepted BadNumber largest 0 row _ _ (p4 .1) in
+    let p4 = check-passed TooManyNumbers (ltb maxCount (length row)) _ _ (p1 .1) in
+    let p3 = each-accepted BadNumber maxNumber 0 row _ _ (p4 .1) in
     let p5 = check-passed NoRoom (ltb room (length (encoding m row))) _ _ (p3 .1) in
     let same : _≡_ {A = ℕ × ℕ} (length (encoding m row), length (rowBits m row)) (bytes, bits) = accepted-one (p5 .1) in (
       record {
         order = order-is m (not-false _ (p1 .0));
-        count = ltb-false longest (length row) (p4 .0);
+        count = ltb-false maxCount (length row) (p4 .0);
         legal = p3 .0;
         fits = ltb-false room (length (encoding m row)) (p5 .0);
       },
@@ -54,34 +54,34 @@ write-is m row room bytes bits e =
 pub write-accepts : (m : ℕ) (row : List ℕ) (room : ℕ) → Writable m row room → write m row room ≡ accepted (length (encoding m row), length (rowBits m row))
 unfolding write
 write-accepts m row room w =
-    rw (is-order m (w .order), le-ltb longest (length row) (w .count), each-passed BadNumber largest 0 row _ (w .legal), le-ltb room (length (encoding m row)) (w .fits)) refl
+    rw (is-order m (w .order), le-ltb maxCount (length row) (w .count), each-passed BadNumber maxNumber 0 row _ (w .legal), le-ltb room (length (encoding m row)) (w .fits)) refl
 
 -- ## What is decided, check by check
 
 module _ (m : ℕ) (row : List ℕ) (room : ℕ) (o : isOrder m ≡ true) where
-  pub write-count : longest < length row → refused TooManyNumbers ≡ write m row room
+  pub write-count : maxCount < length row → refused TooManyNumbers ≡ write m row room
   unfolding write
-  write-count h = rw (o, lt-ltb longest (length row) h) refl
+  write-count h = rw (o, lt-ltb maxCount (length row) h) refl
 
-  module _ (l : length row ≤ longest) where
-    pub write-number : (bits : ℕ) (r : Refusal) → refused r ≡ checkEach BadNumber largest 0 row (accepted bits) → refused r ≡ write m row room
+  module _ (l : length row ≤ maxCount) where
+    pub write-number : (bits : ℕ) (r : Refusal) → refused r ≡ checkEach BadNumber maxNumber 0 row (accepted bits) → refused r ≡ write m row room
     unfolding write
-    write-number bits r e = rw (o, le-ltb longest (length row) l) (sym (each-refused BadNumber largest 0 row bits r _ (sym e)))
+    write-number bits r e = rw (o, le-ltb maxCount (length row) l) (sym (each-refused BadNumber maxNumber 0 row bits r _ (sym e)))
 
     -- the row has so many bits
-    module _ (bits : ℕ) (e : accepted bits ≡ checkEach BadNumber largest 0 row (accepted (length (rowBits m row)))) where
-      measured : Legal largest row × (length (rowBits m row) ≡ bits)
-      measured = let x = each-accepted BadNumber largest 0 row _ bits (sym e) in (x .0, accepted-one (x .1))
+    module _ (bits : ℕ) (e : accepted bits ≡ checkEach BadNumber maxNumber 0 row (accepted (length (rowBits m row)))) where
+      measured : Legal maxNumber row × (length (rowBits m row) ≡ bits)
+      measured = let x = each-accepted BadNumber maxNumber 0 row _ bits (sym e) in (x .0, accepted-one (x .1))
 
       bytes : length (encoding m row) ≡ byteCount bits
       bytes = bytes-are m row ∙ ap byteCount (measured .1)
 
-      pub bits-most : bits ≤ 47 * longest
+      pub bits-most : bits ≤ 47 * maxCount
       bits-most = omega (arith, measured .1, bits-few m row (order-is m o) (measured .0))
 
       pub write-room : room < byteCount bits → refused NoRoom ≡ write m row room
       unfolding write
-      write-room h = rw (o, le-ltb longest (length row) l, each-passed BadNumber largest 0 row _ (measured .0), bytes, lt-ltb room (byteCount bits) h) refl
+      write-room h = rw (o, le-ltb maxCount (length row) l, each-passed BadNumber maxNumber 0 row _ (measured .0), bytes, lt-ltb room (byteCount bits) h) refl
 
       pub write-done : byteCount bits ≤ room → accepted (byteCount bits, bits) ≡ write m row room
       write-done h =
@@ -104,7 +104,7 @@ module _ (m : ℕ) (row before : List ℕ) where
 
   -- what the codeword writer asks, and what it leaves
   module _ (bytes bits : ℕ) (e : accepted (bytes, bits) ≡ write m row (length before)) where
-    pub write-asks : (length row ≤ longest) × Legal largest row × (bytes ≡ byteCount (length (rowBits m row))) × (bytes ≤ length before)
+    pub write-asks : (length row ≤ maxCount) × Legal maxNumber row × (bytes ≡ byteCount (length (rowBits m row))) × (bytes ≤ length before)
     write-asks = let x = write-is m row (length before) bytes bits (sym e) in (x .0 .count, x .0 .legal, x .1 ∙ bytes-are m row, omega (arith, x .0 .fits, x .1))
 
     pub write-put : (after : List ℕ) → Bytes before → Bytes after → unpack after ≡ putAt 0 (rowBits m row) (unpack before) → after ≡ writeInto m row before

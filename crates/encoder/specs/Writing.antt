@@ -7,7 +7,7 @@ use lib.ListN.{length}
 use Rattle.fibonacci.specs.Encoding.{rowBits, encoding}
 use Rattle.calls.specs.declared.Refusal.the-variants.{BadOrder, BadNumber, TooManyNumbers, NoRoom}
 use Rattle.calls.specs.Calls.{Outcome, accepted, refused, check, buffer}
-use Rattle.calls.specs.Limits.{isOrder, largest, longest, checkEach}
+use Rattle.calls.specs.Limits.{isOrder, maxNumber, maxCount, checkEach}
 use Rattle.encoder.specs.declared.WriteAnswer.{WriteAnswer}
 use Rattle.encoder.specs.declared.WriteAnswer.the-variants.{Written, Refused}
 
@@ -15,8 +15,8 @@ use Rattle.encoder.specs.declared.WriteAnswer.the-variants.{Written, Ref
 unfoldable pub write : ℕ → List ℕ → ℕ → Outcome (ℕ × ℕ)
 write m row room =
     check BadOrder (not (isOrder m))
-    (check TooManyNumbers (ltb longest (length row))
-    (checkEach BadNumber largest 0 row
+    (check TooManyNumbers (ltb maxCount (length row))
+    (checkEach BadNumber maxNumber 0 row
     (check NoRoom (ltb room (length (encoding m row)))
     (accepted (length (encoding m row), length (rowBits m row))))))
 

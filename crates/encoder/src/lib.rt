@@ -4,7 +4,7 @@ ghost use Prim.Native.Nat.{_≤_};
 ghost use lib.ListN.{length};
 ghost use Rattle.calls.specs.declared.Refusal.the-variants.{BadNumber};
 ghost use Rattle.calls.specs.Calls.{accepted, countOutcome};
-ghost use Rattle.calls.specs.Limits.{largest, longest, checkEach};
+ghost use Rattle.calls.specs.Limits.{maxNumber, maxCount, checkEach};
 ghost use Rattle.fibonacci.specs.Encoding.{rowBits};
 ghost use Rattle.fibonacci.specs.Tables.{Firsts};
 ghost use Rattle.encoder.specs.Writing.{write, writeInto, writeOutcome};
@@ -18,7 +18,7 @@ pub enum WriteAnswer {
 
 // How many bits the codewords of a row have, if no number is 0 or above the limit.
 fn measure(firsts: &[u32; 47], order: usize, row: &[u32], limit: u64) -> CountAnswer
-    requires { ⌜ Firsts order (now firsts) × (length (now row) ≤ longest) × (limit ≤ largest) ⌝ }
+    requires { ⌜ Firsts order (now firsts) × (length (now row) ≤ maxCount) × (limit ≤ maxNumber) ⌝ }
     ensures { λ r. ⌜ countOutcome r ≡ checkEach BadNumber limit 0 (now (row .entry)) (accepted (length (rowBits order (now (row .entry))))) ⌝ }
 {
     let mut bits: usize = 0;
@@ -37,10 +37,10 @@ fn plan(firsts: &[u32; 47], order: usize, row: &[u32], room: usize) -> WriteAnsw
     requires { ⌜ Firsts order (now firsts) ⌝ }
     ensures { λ r. ⌜ writeOutcome r ≡ write order (now (row .entry)) room ⌝ }
 {
-    if row.len() > calls::LONGEST {
+    if row.len() > calls::MAX_COUNT {
         return WriteAnswer::Refused(Refusal::TooManyNumbers);
     }
-    let measured = measure(firsts, order, row, calls::LARGEST);
+    let measured = measure(firsts, order, row, calls::MAX_NUMBER);
     match measured {
         CountAnswer::Refused(r) => WriteAnswer::Refused(r),
         CountAnswer::Count(bits) => {

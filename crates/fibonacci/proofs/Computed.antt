@@ -4,10 +4,11 @@ use mathlib.Core.Bool.{Bool, true, false}
 use mathlib.Core.List.{List, [], _∷_}
 use Prim.Native.Nat.{ℕ}
 use lib.ListN.{length}
+use Rattle.lists.specs.Lists.{valuesFrom}
 use Rattle.bits.specs.Bits.{bitOf, wordBits}
-use Rattle.fibonacci.specs.Code.{valuesFrom, past, F, first, digits, size, codeword}
+use Rattle.fibonacci.specs.Code.{past, F, first, digits, size, codeword}
 use Rattle.fibonacci.specs.Encoding.{parsed, parse, parseAfter}
-use Rattle.calls.specs.Limits.{largest}
+use Rattle.calls.specs.Limits.{maxNumber}
 
 -- Bits as a binary numeral with a one put before them, so that zeros at the start count: 0b1_011 is 011
 word : ℕ → List Bool
@@ -72,9 +73,9 @@ unfolding line word wordBits bitOf codeword size digits first F past
 table-2 = refl
 
 -- Paper 01: the longest codeword of a legal number has 47 bits
-longest : valuesFrom (λ m. length (codeword m largest)) 2 5 ≡ 47 ∷ 39 ∷ 38 ∷ 38 ∷ 39 ∷ []
+maxCount : valuesFrom (λ m. length (codeword m maxNumber)) 2 5 ≡ 47 ∷ 39 ∷ 38 ∷ 38 ∷ 39 ∷ []
 unfolding codeword size digits first F past
-longest = refl
+maxCount = refl
 
 -- Paper 01, "Ways a strip has been misread": 111 in order 2 is number 1 and a remaining 1
 three-ones : parse 2 (word 0b1_111) ≡ parsed (word 0b1_11 ∷ []) (word 0b1_1)

@@ -4,6 +4,5 @@ pub mod Numeration
 pub mod Numbers
 pub mod Parse
 pub mod Rows
-pub mod Demand
 pub mod Lookup
 pub mod Sums

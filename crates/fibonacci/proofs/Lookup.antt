@@ -9,17 +9,13 @@ use native.Mathlib.Decide.{decLe}
 use lib.Dec.{leb}
 use lib.ListN.{getD, replicate, getD-replicate}
 use borrow.Author.Tests.{le-leb, lt-leb, leb-true, leb-false}
-use Rattle.fibonacci.specs.Code.{valuesFrom, past, F, first}
-use Rattle.calls.specs.Limits.{largest, Order}
-use Rattle.fibonacci.specs.Tables.{bounded, tableRow, tableOf}
+use Rattle.lists.specs.Lists.{valuesFrom}
+use Rattle.lists.proofs.Lists.{values-at}
+use Rattle.fibonacci.specs.Code.{past, F, first}
+use Rattle.calls.specs.Limits.{maxNumber, Order}
+use Rattle.fibonacci.specs.Tables.{numberOrZero, tableRow, tableOf}
 use Rattle.fibonacci.proofs.Numeration.{F-rises}
 use Rattle.fibonacci.proofs.Numbers.{first-rises}
-
--- entry i of a list of values
-pub values-at : {A : Type 0} (f : ℕ → A) (j n i : ℕ) (z : A) → i < n → getD (valuesFrom f j n) i z ≡ f (j + i)
-values-at f j zero i z h = absurd (omega arith)
-values-at f j (suc n) zero z h = ap f (sym (add-zero j))
-values-at f j (suc n) (suc i) z h = values-at f (suc j) n i z (omega arith) ∙ ap f (omega arith)
 
 -- the row of an order in a table of tables
 pub row-at : (f : ℕ → ℕ → ℕ) (m : ℕ) (z : List ℕ) → Order m → getD (tableOf f) (m - 2) z ≡ tableRow (f m)
@@ -29,9 +25,9 @@ row-at f m z h =
     values-at (λ m. tableRow (f m)) 2 5 (m - 2) z (omega arith) ∙ ap (λ (m : ℕ). tableRow (f m)) e
 
 -- an entry of a row
-pub entry-at : (f : ℕ → ℕ) (j z : ℕ) → j < 47 → getD (tableRow f) j z ≡ bounded (f j)
+pub entry-at : (f : ℕ → ℕ) (j z : ℕ) → j < 47 → getD (tableRow f) j z ≡ numberOrZero (f j)
 unfolding tableRow
-entry-at f j z h = values-at (λ j. bounded (f j)) 0 47 j z h ∙ ap (λ (i : ℕ). bounded (f i)) (zero-add j)
+entry-at f j z h = values-at (λ j. numberOrZero (f j)) 0 47 j z h ∙ ap (λ (i : ℕ). numberOrZero (f i)) (zero-add j)
 
 -- ## Past the row
 
@@ -42,51 +38,51 @@ each-order t v e m h =
     ap t (sym k) ∙ sym (values-at t 2 5 (m - 2) v (omega arith)) ∙ ap (λ (l : List Bool). getD l (m - 2) v) e
     ∙ getD-replicate 5 (m - 2) v v (omega arith)
 
-F-over : (m : ℕ) → Order m → largest < F m 47
+F-over : (m : ℕ) → Order m → maxNumber < F m 47
 unfolding F past
-F-over m h = leb-false _ _ (each-order (λ m. leb (F m 47) largest) false refl m h)
+F-over m h = leb-false _ _ (each-order (λ m. leb (F m 47) maxNumber) false refl m h)
 
 -- a codeword of 48 bits
-first-over : (m : ℕ) → Order m → largest < first m (48 - m)
+first-over : (m : ℕ) → Order m → maxNumber < first m (48 - m)
 unfolding first F past
-first-over m h = leb-false _ _ (each-order (λ m. leb (first m (48 - m)) largest) false refl m h)
+first-over m h = leb-false _ _ (each-order (λ m. leb (first m (48 - m)) maxNumber) false refl m h)
 
 -- the first numbers of few bits are small
-pub first-few : (m d : ℕ) → Order m → d ≤ 9 → first m d ≤ largest
+pub first-few : (m d : ℕ) → Order m → d ≤ 9 → first m d ≤ maxNumber
 unfolding first F past
-first-few m d h l = omega (arith, leb-true (first m 9) largest (each-order (λ m. leb (first m 9) largest) true refl m h), first-rises m l)
+first-few m d h l = omega (arith, leb-true (first m 9) maxNumber (each-order (λ m. leb (first m 9) maxNumber) true refl m h), first-rises m l)
 
 -- ## What a look-up gives
 
-pub bounded-is : (x : ℕ) → x ≤ largest → bounded x ≡ x
-unfolding bounded
-bounded-is x h = rw (le-leb x largest h, bounded)
+pub number-kept : (x : ℕ) → x ≤ maxNumber → numberOrZero x ≡ x
+unfolding numberOrZero
+number-kept x h = rw (le-leb x maxNumber h, numberOrZero)
 
-pub bounded-not : (x : ℕ) → largest < x → bounded x ≡ 0
-unfolding bounded
-bounded-not x h = rw (lt-leb x largest h, bounded)
+pub number-zero : (x : ℕ) → maxNumber < x → numberOrZero x ≡ 0
+unfolding numberOrZero
+number-zero x h = rw (lt-leb x maxNumber h, numberOrZero)
 
 -- so a look-up tells whether there is such a value
-pub bounded-none : (x : ℕ) → 1 ≤ x → bounded x ≡ 0 → largest < x
-bounded-none x p e = elim (decLe x largest) [ yes h ↦ absurd (omega (arith, bounded-is x h)) | no h ↦ omega arith ]
+pub number-none : (x : ℕ) → 1 ≤ x → numberOrZero x ≡ 0 → maxNumber < x
+number-none x p e = elim (decLe x maxNumber) [ yes h ↦ absurd (omega (arith, number-kept x h)) | no h ↦ omega arith ]
 
-pub bounded-some : (x : ℕ) → (bounded x ≡ 0 → ⊥) → x ≤ largest
-bounded-some x e = elim (decLe x largest) [ yes h ↦ h | no h ↦ absurd (e (bounded-not x (omega arith))) ]
+pub number-some : (x : ℕ) → (numberOrZero x ≡ 0 → ⊥) → x ≤ maxNumber
+number-some x e = elim (decLe x maxNumber) [ yes h ↦ h | no h ↦ absurd (e (number-zero x (omega arith))) ]
 
 module _ (m : ℕ) (h : Order m) where
   -- every position value up to the largest number stands in the row
-  pub position-within : (j : ℕ) → F m j ≤ largest → j < 47
+  pub position-within : (j : ℕ) → F m j ≤ maxNumber → j < 47
   position-within j b =
       elim (decLe 47 j) [
         | yes l ↦ absurd (omega (arith, F-over m h, F-rises m (omega arith) l))
         | no l ↦ omega arith
       ]
 
-  pub position-at : (j z : ℕ) → F m j ≤ largest → getD (tableRow (F m)) j z ≡ F m j
-  position-at j z b = entry-at (F m) j z (position-within j b) ∙ bounded-is (F m j) b
+  pub position-at : (j z : ℕ) → F m j ≤ maxNumber → getD (tableRow (F m)) j z ≡ F m j
+  position-at j z b = entry-at (F m) j z (position-within j b) ∙ number-kept (F m j) b
 
   -- the longest codeword of a legal number has 47 bits
-  pub first-within : (d : ℕ) → first m d ≤ largest → d + m ≤ 47
+  pub first-within : (d : ℕ) → first m d ≤ maxNumber → d + m ≤ 47
   first-within d b =
       elim (decLe (48 - m) d) [
         | yes l ↦ absurd (omega (arith, first-over m h, first-rises m l))
@@ -94,5 +90,5 @@ module _ (m : ℕ) (h : Order m) where
       ]
 
   -- past the row every first number is above the largest number
-  pub first-past : (d : ℕ) → 47 ≤ d → bounded (first m d) ≡ 0
-  first-past d l = bounded-not (first m d) (omega (arith, first-over m h, first-rises m {j = 48 - m} {k = d} (omega arith)))
+  pub first-past : (d : ℕ) → 47 ≤ d → numberOrZero (first m d) ≡ 0
+  first-past d l = number-zero (first m d) (omega (arith, first-over m h, first-rises m {j = 48 - m} {k = d} (omega arith)))

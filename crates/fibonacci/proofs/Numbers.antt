@@ -10,9 +10,10 @@ use native.Mathlib.Decide.{decLe}
 use lib.ListN.{length, length-append, length-replicate}
 use lib.Seq.{take-at}
 use borrow.Author.Tests.{le-leb, lt-leb}
-use Rattle.fibonacci.specs.Code.{sum, valuesFrom, past, F, value, first, ones, runs, Codeword, Form, number, digits, size, codeword}
+use Rattle.lists.specs.Lists.{sum, valuesFrom}
+use Rattle.fibonacci.specs.Code.{past, F, value, first, ones, runs, Codeword, Form, number, digits, size, codeword}
 use Rattle.fibonacci.proofs.Runs.{runs-false, runs-more, runs-grow, lead-ones, runs-all, runs-cut}
-use Rattle.fibonacci.proofs.Numeration.{rising, part, F-suc, part-suc, part-zero, part-none, part-head, F-pos, digits-small, digits-good, free-digits, digits-append, digits-length}
+use Rattle.fibonacci.proofs.Numeration.{rising, sumDown, F-suc, sumDown-suc, sumDown-zero, sumDown-none, sumDown-head, F-pos, digits-small, digits-good, free-digits, digits-append, digits-length}
 
 -- ## The first numbers
 
@@ -38,17 +39,17 @@ unfolding first
 first-pos m d = first-rises m {j = 0} {k = d} (omega arith)
 
 -- any of the position values down from F(n) sum up to less than the next first number
-part-below : (m n i : ℕ) → part m n i < first m (suc n)
+sumDown-below : (m n i : ℕ) → sumDown m n i < first m (suc n)
 unfolding first
-part-below m n zero = omega (arith, part-none m n)
-part-below m zero (suc i) = omega (arith, part-zero m (suc i) (omega arith))
-part-below m (suc n) (suc i) = omega (arith, part-suc m n i, first-suc m (suc n), part-below m n i)
+sumDown-below m n zero = omega (arith, sumDown-none m n)
+sumDown-below m zero (suc i) = omega (arith, sumDown-zero m (suc i) (omega arith))
+sumDown-below m (suc n) (suc i) = omega (arith, sumDown-suc m n i, first-suc m (suc n), sumDown-below m n i)
 
 -- so no position value is above the first number of its place
 pub F-first : (m d : ℕ) → F m d ≤ first m d
 unfolding F past first
 F-first m zero = omega arith
-F-first m (suc s) = omega (arith, F-suc m s, part-below m s m)
+F-first m (suc s) = omega (arith, F-suc m s, sumDown-below m s m)
 
 -- n is among the numbers whose codewords have d bits before their m ones
 abbrev pub Within : ℕ → ℕ → ℕ → Type 0
@@ -119,7 +120,7 @@ number-digits m q =
 
 pub codeword-form : (m : ℕ) (w : List Bool) → 1 ≤ m → Codeword m w → Form m w
 codeword-form m w p c =
-    go (reverse (c .stem)) (c .ends ∙ ap (λ (l : List Bool). l ++ ones m) (sym (reverse-reverse (c .stem))) ∙ sym (reverseAux-eq (reverse (c .stem)) (ones m)))
+    go (reverse (c .body)) (c .ends ∙ ap (λ (l : List Bool). l ++ ones m) (sym (reverse-reverse (c .body))) ∙ sym (reverseAux-eq (reverse (c .body)) (ones m)))
   where
     go : (h : List Bool) → w ≡ reverseAux h (ones m) → Form m w
     go [] e = inl e
@@ -130,11 +131,11 @@ codeword-form m w p c =
         inr (reverse h, f, omega (arith, c .once, ap (runs m) f, runs-cut m (reverse h) (ones m) p, runs-all m p))
 
 pub form-codeword : (m : ℕ) (w : List Bool) → 1 ≤ m → Form m w → Codeword m w
-form-codeword m w p (inl e) = record { once = ap (runs m) e ∙ runs-all m p; stem = []; ends = e }
+form-codeword m w p (inl e) = record { once = ap (runs m) e ∙ runs-all m p; body = []; ends = e }
 form-codeword m w p (inr f) =
     record {
       once = omega (arith, ap (runs m) (f .1), runs-cut m (f .0) (ones m) p, f .2, runs-all m p);
-      stem = f .0 ++ (false ∷ []);
+      body = f .0 ++ (false ∷ []);
       ends = f .1 ∙ sym (append-assoc (f .0) (false ∷ []) (ones m));
     }
 
@@ -143,7 +144,7 @@ form-codeword m w p (inr f) =
 digits-value : (m d r : ℕ) → 1 ≤ m → r < F m d → value m 1 (digits m d r []) ≡ r
 unfolding value
 digits-value zero d r p h = absurd (omega arith)
-digits-value (suc m) d r p h = digits-good (suc m) d (suc m) r [] (zero-add _) (omega (arith, part-head (suc m) d m)) .1 ∙ add-zero r
+digits-value (suc m) d r p h = digits-good (suc m) d (suc m) r [] (zero-add _) (omega (arith, sumDown-head (suc m) d m)) .1 ∙ add-zero r
 
 digits-once : (m d r : ℕ) → 1 ≤ m → r < F m d → runs m (digits m d r (ones m)) ≡ 1
 unfolding digits
@@ -161,7 +162,7 @@ codeword-good m n p h =
     let small : r < F m d = omega (arith, first-suc m d) in
     let e : digits m d r (ones m) ≡ digits m d r [] ++ ones m = digits-append m d r [] (ones m) in
     let l : length (digits m d r []) ≡ d = digits-length m d r [] ∙ add-zero d in (
-      record { once = digits-once m d r p small; stem = digits m d r []; ends = e },
+      record { once = digits-once m d r p small; body = digits m d r []; ends = e },
       ap (number m) e ∙ number-of m (digits m d r []) ∙ omega (arith, ap (first m) l, digits-value m d r p small),
     )
 

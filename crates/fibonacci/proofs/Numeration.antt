@@ -8,41 +8,42 @@ use native.Mathlib.Nat.{add-zero, zero-add}
 use native.Mathlib.Decide.{decLe, le-ind}
 use lib.ListN.{length, take, replicate, length-reverse}
 use borrow.Author.Tests.{le-leb, lt-leb}
-use Rattle.fibonacci.specs.Code.{sum, past, F, value, lead, runs, digits}
+use Rattle.lists.specs.Lists.{sum}
+use Rattle.fibonacci.specs.Code.{past, F, value, leadingOnes, runs, digits}
 use Rattle.fibonacci.proofs.Runs.{runs-false, runs-true, runs-more, runs-grow}
 
 -- ## Sums of position values: the first three laws carry everything
 
 -- F(n) + F(n - 1) + .. , i values
-unfoldable pub part : ℕ → ℕ → ℕ → ℕ
-part m n i = sum (take i (past m n))
+unfoldable pub sumDown : ℕ → ℕ → ℕ → ℕ
+sumDown m n i = sum (take i (past m n))
 
-pub F-suc : (m n : ℕ) → F m (suc n) ≡ part m n m
-unfolding F part past
+pub F-suc : (m n : ℕ) → F m (suc n) ≡ sumDown m n m
+unfolding F sumDown past
 F-suc m n = refl
 
-pub part-suc : (m n i : ℕ) → part m (suc n) (suc i) ≡ F m (suc n) + part m n i
-unfolding F part past
-part-suc m n i = refl
+pub sumDown-suc : (m n i : ℕ) → sumDown m (suc n) (suc i) ≡ F m (suc n) + sumDown m n i
+unfolding F sumDown past
+sumDown-suc m n i = refl
 
 sum-zeros : (i m : ℕ) → sum (take i (replicate m 0)) ≡ 0
 sum-zeros zero m = refl
 sum-zeros (suc i) zero = refl
 sum-zeros (suc i) (suc m) = omega (arith, sum-zeros i m)
 
-pub part-zero : (m i : ℕ) → 1 ≤ i → part m 0 i ≡ 1
-unfolding part past
-part-zero m zero h = absurd (omega arith)
-part-zero m (suc i) h = omega (arith, sum-zeros i m)
+pub sumDown-zero : (m i : ℕ) → 1 ≤ i → sumDown m 0 i ≡ 1
+unfolding sumDown past
+sumDown-zero m zero h = absurd (omega arith)
+sumDown-zero m (suc i) h = omega (arith, sum-zeros i m)
 
-pub part-none : (m n : ℕ) → part m n 0 ≡ 0
-unfolding part
-part-none m n = refl
+pub sumDown-none : (m n : ℕ) → sumDown m n 0 ≡ 0
+unfolding sumDown
+sumDown-none m n = refl
 
-pub part-head : (m n i : ℕ) → F m n ≤ part m n (suc i)
+pub sumDown-head : (m n i : ℕ) → F m n ≤ sumDown m n (suc i)
 unfolding F past
-part-head m zero i = omega (arith, part-zero m (suc i) (omega arith))
-part-head m (suc n) i = omega (arith, part-suc m n i)
+sumDown-head m zero i = omega (arith, sumDown-zero m (suc i) (omega arith))
+sumDown-head m (suc n) i = omega (arith, sumDown-suc m n i)
 
 -- what never falls from one place to the next never falls
 pub rising : (f : ℕ → ℕ) → ((n : ℕ) → f n ≤ f (suc n)) → {j k : ℕ} → j ≤ k → f j ≤ f k
@@ -50,7 +51,7 @@ rising f up {j} {k} h = le-ind (λ k. f j ≤ f k) (omega arith) (λ k l ih. ome
 
 pub F-rises : (m : ℕ) → 1 ≤ m → {j k : ℕ} → j ≤ k → F m j ≤ F m k
 F-rises zero h = absurd (omega arith)
-F-rises (suc m) h = rising (F (suc m)) (λ n. omega (arith, F-suc (suc m) n, part-head (suc m) n m))
+F-rises (suc m) h = rising (F (suc m)) (λ n. omega (arith, F-suc (suc m) n, sumDown-head (suc m) n m))
 
 pub F-pos : (m n : ℕ) → 1 ≤ m → 1 ≤ F m n
 unfolding F past
@@ -88,20 +89,20 @@ digits-length m (suc s) r t =
 
 -- Before a string that begins with k ones there may stand digits that end in fewer than i ones, where k + i is m: s digits in part m s i ways.
 
-some : (m s i : ℕ) → 1 ≤ part m s i → 1 ≤ i
-some m s zero h = omega (arith, part-none m s)
+some : (m s i : ℕ) → 1 ≤ sumDown m s i → 1 ≤ i
+some m s zero h = omega (arith, sumDown-none m s)
 some m s (suc i) h = omega arith
 
-pub digits-good : (m s i r : ℕ) (t : List Bool) → lead t + i ≡ m → r < part m s i
+pub digits-good : (m s i r : ℕ) (t : List Bool) → leadingOnes t + i ≡ m → r < sumDown m s i
     → (runs m (digits m s r t) ≡ runs m t) × (value m 1 (digits m s r t) ≡ r + value m (suc s) t)
 unfolding digits value
-digits-good m zero i r t h b = (refl, omega (arith, part-zero m i (some m 0 i (omega arith))))
-digits-good m (suc s) zero r t h b = absurd (omega (arith, part-none m (suc s)))
+digits-good m zero i r t h b = (refl, omega (arith, sumDown-zero m i (some m 0 i (omega arith))))
+digits-good m (suc s) zero r t h b = absurd (omega (arith, sumDown-none m (suc s)))
 digits-good m (suc s) (suc i) r t h b =
     elim (decLe (F m (suc s)) r) [
       | yes big ↦
-          let more : 1 ≤ i = some m s i (omega (arith, part-suc m s i)) in
-          let ih = digits-good m s i (r - F m (suc s)) (true ∷ t) (omega arith) (omega (arith, part-suc m s i)) in
+          let more : 1 ≤ i = some m s i (omega (arith, sumDown-suc m s i)) in
+          let ih = digits-good m s i (r - F m (suc s)) (true ∷ t) (omega arith) (omega (arith, sumDown-suc m s i)) in
           rw (digits-big m s r t big) (ih .0 ∙ runs-true m t (omega arith), omega (arith, ih .1))
       | no small ↦
           let ih = digits-good m s m r (false ∷ t) (zero-add m) (omega (arith, F-suc m s)) in
@@ -113,34 +114,34 @@ digits-good m (suc s) (suc i) r t h b =
 -- what the digits h, the highest first, do before t
 pub record Digits (m i : ℕ) (h t : List Bool) : Type 0 where
   pub v : ℕ
-  pub below : v < part m (length h) i
-  pub worth : value m 1 (reverseAux h t) ≡ v + value m (suc (length h)) t
+  pub below : v < sumDown m (length h) i
+  pub bitValue : value m 1 (reverseAux h t) ≡ v + value m (suc (length h)) t
   pub greedy : digits m (length h) v t ≡ reverseAux h t
 
-pub digits-of : (m : ℕ) (h : List Bool) (i : ℕ) (t : List Bool) → 1 ≤ i → lead t + i ≡ m → runs m (reverseAux h t) ≡ runs m t → Digits m i h t
+pub digits-of : (m : ℕ) (h : List Bool) (i : ℕ) (t : List Bool) → 1 ≤ i → leadingOnes t + i ≡ m → runs m (reverseAux h t) ≡ runs m t → Digits m i h t
 unfolding digits value
-digits-of m [] i t p e q = record { v = 0; below = omega (arith, part-zero m i p); worth = omega arith; greedy = refl }
+digits-of m [] i t p e q = record { v = 0; below = omega (arith, sumDown-zero m i p); bitValue = omega arith; greedy = refl }
 digits-of m (false ∷ h) zero t p e q = absurd (omega arith)
 digits-of m (false ∷ h) (suc i) t p e q =
     let ih = digits-of m h m (false ∷ t) (omega arith) (zero-add m) (q ∙ sym (runs-false m t (omega arith))) in
     record {
       v = ih .v;
-      below = omega (arith, ih .below, part-suc m (length h) i, F-suc m (length h));
-      worth = ih .worth;
+      below = omega (arith, ih .below, sumDown-suc m (length h) i, F-suc m (length h));
+      bitValue = ih .bitValue;
       greedy = digits-small m (length h) (ih .v) t (omega (arith, ih .below, F-suc m (length h))) ∙ ih .greedy;
     }
 digits-of m (true ∷ h) zero t p e q = absurd (omega arith)
 digits-of m (true ∷ h) (suc i) t p e q =
     let more : 1 ≤ i =
-    elim (decLe m (suc (lead t))) [
+    elim (decLe m (suc (leadingOnes t))) [
       | yes g ↦ absurd (omega (arith, runs-more m t g, runs-grow m h (true ∷ t)))
       | no l ↦ omega arith
     ] in
     let ih = digits-of m h i (true ∷ t) more (omega arith) (q ∙ sym (runs-true m t (omega arith))) in
     record {
       v = F m (suc (length h)) + ih .v;
-      below = omega (arith, ih .below, part-suc m (length h) i);
-      worth = omega (arith, ih .worth);
+      below = omega (arith, ih .below, sumDown-suc m (length h) i);
+      bitValue = omega (arith, ih .bitValue);
       greedy = digits-big m (length h) (F m (suc (length h)) + ih .v) t (omega arith)
           ∙ ap (λ (x : ℕ). digits m (length h) x (true ∷ t)) (omega arith) ∙ ih .greedy;
     }
@@ -152,7 +153,7 @@ unfolding runs value
 free-digits m q p free =
     let back : reverseAux (reverse q) [] ≡ q = reverse-reverse q in
     let g = digits-of m (reverse q) m [] p (zero-add m) (ap (runs m) back ∙ free) in
-    let v : g .v ≡ value m 1 q = sym (sym (ap (value m 1) back) ∙ g .worth ∙ add-zero (g .v)) in
+    let v : g .v ≡ value m 1 q = sym (sym (ap (value m 1) back) ∙ g .bitValue ∙ add-zero (g .v)) in
     let l : length (reverse q) ≡ length q = length-reverse q in (
       omega (arith, g .below, F-suc m (length (reverse q)), ap (λ (k : ℕ). F m (suc k)) l),
       λ t.

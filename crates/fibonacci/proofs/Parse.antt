@@ -8,8 +8,8 @@ use native.Mathlib.Omega.{arith}
 use native.Mathlib.Nat.{zero-add, eq-or-lt-of-le}
 use lib.ListN.{replicate-append-replicate}
 use borrow.Author.Tests.{eq-eqb, ne-eqb}
-use Rattle.fibonacci.specs.Code.{ones, lead, runs, Codeword}
-use Rattle.calls.specs.Limits.{All}
+use Rattle.lists.specs.Lists.{All}
+use Rattle.fibonacci.specs.Code.{ones, leadingOnes, runs, Codeword}
 use Rattle.fibonacci.specs.Encoding.{parsed, Parse, codewords, rest, IsParse, push, prepend, parseAfter, parse}
 use Rattle.fibonacci.proofs.Runs.{runs-more, runs-after, lead-ones, runs-ones, runs-all, ones-on, runs-reset, runs-full}
 
@@ -56,8 +56,8 @@ fits-false m k (parsed (w ∷ ws) r) h f =
     let c = f .0 in (
       record {
         once = runs-reset m k w h ∙ c .once;
-        stem = ones k ++ (false ∷ c .stem);
-        ends = ap (λ (l : List Bool). ones k ++ (false ∷ l)) (c .ends) ∙ sym (append-assoc (ones k) (false ∷ c .stem) (ones m));
+        body = ones k ++ (false ∷ c .body);
+        ends = ap (λ (l : List Bool). ones k ++ (false ∷ l)) (c .ends) ∙ sym (append-assoc (ones k) (false ∷ c .body) (ones m));
       },
       f .1,
       f .2,
@@ -78,7 +78,7 @@ unfolding Fits
 fits-full m k (parsed ws r) h f =
     let e : ones k ++ (true ∷ []) ≡ ones m = ones-on k [] ∙ ap (λ (l : List Bool). true ∷ l) (append-nil (ones k)) ∙ ap ones h in
     let all = fits-all m (parsed ws r) f in
-    (record { once = ap (runs m) e ∙ runs-all m (omega arith); stem = []; ends = e }, all .0, all .1)
+    (record { once = ap (runs m) e ∙ runs-all m (omega arith); body = []; ends = e }, all .0, all .1)
 
 after-fits : (m k : ℕ) (b : List Bool) → k < m → Fits m k (parseAfter m k b)
 unfolding Fits parseAfter
@@ -120,7 +120,7 @@ after-codeword (suc m) zero [] t h q = after-ones (suc m) 0 m t (zero-add _)
 after-codeword (suc m) (suc k) [] t h q =
     absurd (omega (
       arith,
-      runs-more (suc m) (ones k ++ ones (suc m)) (omega (arith, ap lead (replicate-append-replicate k (suc m) true), lead-ones (k + suc m))),
+      runs-more (suc m) (ones k ++ ones (suc m)) (omega (arith, ap leadingOnes (replicate-append-replicate k (suc m) true), lead-ones (k + suc m))),
       runs-after (suc m) (ones k) (ones (suc m)),
       runs-all (suc m) (omega arith),
     ))
@@ -166,7 +166,7 @@ parse-flatten m (w ∷ ws) t p a =
     let c = a .0 in
     ap (parseAfter m 0) (append-assoc w (flatten ws) t)
     ∙ subst (λ (w : List Bool). parseAfter m 0 (w ++ (flatten ws ++ t)) ≡ prepend w (parseAfter m 0 (flatten ws ++ t))) (sym (c .ends))
-    (after-codeword m 0 (c .stem) (flatten ws ++ t) p (ap (runs m) (sym (c .ends)) ∙ c .once))
+    (after-codeword m 0 (c .body) (flatten ws ++ t) p (ap (runs m) (sym (c .ends)) ∙ c .once))
     ∙ ap (prepend w) (parse-flatten m ws t p (a .1))
 
 pub parse-rest : (m : ℕ) (r : List Bool) → 1 ≤ m → runs m r ≡ 0 → parse m r ≡ parsed [] r

@@ -5,11 +5,11 @@ use mathlib.Core.List.{List, [], _∷_, _++_, append-nil, map, map-append, flatt
 use mathlib.Core.Logic.{_↔_}
 use Prim.Native.Nat.{ℕ, zero, suc, _≤_}
 use lib.ListN.{length, replicate}
+use Rattle.lists.proofs.Lists.{flatten-map-append}
+use Rattle.lists.specs.Lists.{All}
 use Rattle.bits.specs.Bits.{unpack, padding}
-use Rattle.bits.proofs.Lists.{flatten-map-append}
 use Rattle.bits.proofs.Packing.{unpack-pack}
 use Rattle.fibonacci.specs.Code.{runs, Codeword, number, codeword}
-use Rattle.calls.specs.Limits.{All}
 use Rattle.fibonacci.specs.Encoding.{Positive, rowBits, encoding, Parse, parsed, codewords, rest, parse, numbers}
 use Rattle.fibonacci.proofs.Runs.{runs-false}
 use Rattle.fibonacci.proofs.Numbers.{codeword-good, codeword-number}

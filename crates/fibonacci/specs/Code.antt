@@ -1,22 +1,15 @@
 -- The Fibonacci code of order m (paper 01, "The code of order m"; source 001, section 2), for any m.
 use mathlib.Core.Path.{_≡_}
 use mathlib.Core.Bool.{Bool, true, false}
-use mathlib.Core.List.{List, [], _∷_, _++_, foldr}
+use mathlib.Core.List.{List, [], _∷_, _++_}
 use mathlib.Core.Logic.{_⊎_}
 use Prim.Native.Nat.{ℕ, zero, suc, _+_, _-_}
 use lib.Dec.{leb}
 use lib.ListN.{length, take, getD, replicate}
-use Rattle.bits.specs.Bits.{worth}
+use Rattle.lists.specs.Lists.{sum, valuesFrom}
+use Rattle.bits.specs.Bits.{bitValue}
 
 -- ## The position values
-
-abbrev pub sum : List ℕ → ℕ
-sum l = foldr _+_ 0 l
-
--- f(j), f(j + 1), .. , n values
-abbrev pub valuesFrom : {A : Type 0} → (ℕ → A) → ℕ → ℕ → List A
-valuesFrom f j zero = []
-valuesFrom f j (suc n) = f j ∷ valuesFrom f (suc j) n
 
 -- F(n), F(n - 1), .. , F(0) and m zeros, which stand for F at the negative places: F(0) is 1, and each value after it is the sum of the m before it
 unfoldable pub past : ℕ → ℕ → List ℕ
@@ -34,21 +27,21 @@ abbrev pub ones : ℕ → List Bool
 ones k = replicate k true
 
 -- How many ones stand at the start
-abbrev pub lead : List Bool → ℕ
-lead [] = 0
-lead (false ∷ b) = 0
-lead (true ∷ b) = suc (lead b)
+abbrev pub leadingOnes : List Bool → ℕ
+leadingOnes [] = 0
+leadingOnes (false ∷ b) = 0
+leadingOnes (true ∷ b) = suc (leadingOnes b)
 
 -- At how many places m ones in a row begin, overlaps counted
 unfoldable pub runs : ℕ → List Bool → ℕ
 runs m [] = 0
-runs m (a ∷ b) = worth (leb m (lead (a ∷ b))) + runs m b
+runs m (a ∷ b) = bitValue (leb m (leadingOnes (a ∷ b))) + runs m b
 
 -- A codeword: m ones in a row occur once only, and that is at its end
 pub record Codeword (m : ℕ) (w : List Bool) : Type 0 where
   pub once : runs m w ≡ 1
-  pub stem : List Bool
-  pub ends : w ≡ stem ++ ones m
+  pub body : List Bool
+  pub ends : w ≡ body ++ ones m
 
 -- What every codeword looks like: m ones, or digits without m ones in a row, then a 0, then m ones
 abbrev pub Form : ℕ → List Bool → Type 0

@@ -4,13 +4,9 @@ use mathlib.Core.Bool.{Bool, true, false}
 use mathlib.Core.List.{List, [], _∷_, _++_, map, flatten}
 use Prim.Native.Nat.{ℕ, suc, _≤_}
 use lib.Dec.{eqb}
+use Rattle.lists.specs.Lists.{All}
 use Rattle.bits.specs.Bits.{pack}
 use Rattle.fibonacci.specs.Code.{runs, Codeword, number, codeword}
-
--- What holds of each element of a list
-abbrev pub All : {A : Type 0} → (A → Type 0) → List A → Type 0
-All P [] = Unit {0}
-All P (x ∷ xs) = P x × All P xs
 
 -- ## Rows
 

@@ -1,4 +1,3 @@
 pub mod Code
 pub mod Encoding
-pub mod Demand
 pub mod Tables

@@ -4,16 +4,17 @@ use mathlib.Core.Bool.{true, false}
 use mathlib.Core.List.{List}
 use Prim.Native.Nat.{ℕ}
 use lib.Dec.{leb}
-use Rattle.calls.specs.Limits.{Order, largest}
-use Rattle.fibonacci.specs.Code.{valuesFrom, F, first}
+use Rattle.lists.specs.Lists.{valuesFrom}
+use Rattle.calls.specs.Limits.{Order, maxNumber}
+use Rattle.fibonacci.specs.Code.{F, first}
 
 -- What a table holds for a value: the value where it is at most the largest number, and 0 where it is above
-unfoldable pub bounded : ℕ → ℕ
-bounded x = elim (leb x largest) [ true ↦ x | false ↦ 0 ]
+unfoldable pub numberOrZero : ℕ → ℕ
+numberOrZero x = elim (leb x maxNumber) [ true ↦ x | false ↦ 0 ]
 
 -- The row of a table for the values f(0), f(1), .. : 47 entries, as many as any order has up to the largest number
 unfoldable pub tableRow : (ℕ → ℕ) → List ℕ
-tableRow f = valuesFrom (λ j. bounded (f j)) 0 47
+tableRow f = valuesFrom (λ j. numberOrZero (f j)) 0 47
 
 -- The table of tables: a row for each order from 2 to 6
 unfoldable pub tableOf : (ℕ → ℕ → ℕ) → List (List ℕ)

@@ -1,9 +1,9 @@
 // The Fibonacci codes of order 2 to 6: position values and first numbers, by constant tables.
 ghost use mathlib.Core.Path.{_≡_};
 ghost use Prim.Native.Nat.{_≤_};
-ghost use Rattle.calls.specs.Limits.{Order, largest};
+ghost use Rattle.calls.specs.Limits.{Order, maxNumber};
 ghost use Rattle.fibonacci.specs.Code.{F, first};
-ghost use Rattle.fibonacci.specs.Tables.{bounded, Positions, Firsts};
+ghost use Rattle.fibonacci.specs.Tables.{numberOrZero, Positions, Firsts};
 
 mod tables;
 
@@ -31,7 +31,7 @@ pub fn first_numbers(order: usize) -> [u32; 47]
 // F(j), looked up in its order's row, which the caller has from `positions`. Whoever values a digit goes only as far as a number of that length can be at
 // most 4,294,967,295; F(j) is then, too.
 pub fn position(row: &[u32; 47], order: usize, j: usize) -> u64
-    requires { ⌜ Positions order (now row) × (F order j ≤ largest) ⌝ }
+    requires { ⌜ Positions order (now row) × (F order j ≤ maxNumber) ⌝ }
     ensures { λ r. ⌜ r ≡ F order j ⌝ }
 {
     calls::wide(row[j])
@@ -41,7 +41,7 @@ pub fn position(row: &[u32; 47], order: usize, j: usize) -> u64
 // has the row from `first_numbers`.
 pub fn first_number(row: &[u32; 47], order: usize, d: usize) -> u64
     requires { ⌜ Firsts order (now row) ⌝ }
-    ensures { λ r. ⌜ r ≡ bounded (first order d) ⌝ }
+    ensures { λ r. ⌜ r ≡ numberOrZero (first order d) ⌝ }
 {
     if d < 47 { calls::wide(row[d]) } else { 0 }
 }

@@ -14,13 +14,14 @@ use Rattle.calls.specs.declared.Refusal.{Refusal}
 use Rattle.calls.specs.declared.Refusal.the-variants.{BadOrder, TooManyBytes, TooManyCodewords, NoRoom, BadRest, TooLarge, BadSpan}
 use Rattle.calls.specs.Refusals.{reason}
 use Rattle.calls.specs.Calls.{Outcome, accepted, refused, check, andThen}
-use Rattle.calls.specs.Limits.{isOrder, isNumber, largest, longest, mostBytes}
+use Rattle.calls.specs.Limits.{isOrder, isNumber, maxNumber, maxCount, maxBytes}
 use Rattle.calls.specs.Reading.{checkFinished, contents, decode}
-use Rattle.reading.specs.Reading.{spoilt, fibonacci}
+use Rattle.reading.specs.Reading.{isBadRest, fibonacci}
 use Rattle.reading.proofs.Decoding.{decode-is}
 use Rattle.totals.specs.Totals.{total}
 use Rattle.totals.proofs.Totals.{span-most}
 use Rattle.table_decoder.specs.Reading.{readBytes}
+use Rattle.table_decoder.proofs.Answering.{table-decode}
 use Rattle.host.specs.Host.{hostNumber}
 
 -- 7 comes with its place, and every other number alone
@@ -33,9 +34,9 @@ host-alone r n e = n ∙ rw (ne-eqb (reason r .0) 7 (λ h. e (n ∙ h)), hostNum
 -- A place is at most 4,096, and what is accepted is what it should be
 abbrev pub Fits : {A : Type 0} → (A → Type 0) → Outcome A → Type 0
 Fits P (accepted x) = P x
-Fits P (refused r) = reason r .1 ≤ longest
+Fits P (refused r) = reason r .1 ≤ maxCount
 
-check-fits : {A : Type 0} (P : A → Type 0) (r : Refusal) (t : Bool) (next : Outcome A) → reason r .1 ≤ longest → Fits P next → Fits P (check r t next)
+check-fits : {A : Type 0} (P : A → Type 0) (r : Refusal) (t : Bool) (next : Outcome A) → reason r .1 ≤ maxCount → Fits P next → Fits P (check r t next)
 check-fits P r true next h f = h
 check-fits P r false next h f = f
 
@@ -44,32 +45,32 @@ then-fits : {A B : Type 0} (P : B → Type 0) (d : Outcome A) (next : A → Outc
 then-fits P (accepted x) next f g = g x refl
 then-fits P (refused r) next f g = f
 
-finished-fits : {A : Type 0} (P : A → Type 0) (limit i : ℕ) (ns : List ℕ) (next : Outcome A) → Fits P next → i ≤ longest → Fits P (checkFinished limit i ns next)
+finished-fits : {A : Type 0} (P : A → Type 0) (limit i : ℕ) (ns : List ℕ) (next : Outcome A) → Fits P next → i ≤ maxCount → Fits P (checkFinished limit i ns next)
 unfolding checkFinished
 finished-fits P limit i [] next f h = f
 finished-fits P limit i (n ∷ ns) next f h =
-    elim (decLe longest i) [
-      | yes l ↦ rw (le-leb longest i l) (omega arith)
+    elim (decLe maxCount i) [
+      | yes l ↦ rw (le-leb maxCount i l) (omega arith)
       | no l ↦
-          check-fits P TooManyCodewords (leb longest i) _ (omega arith)
+          check-fits P TooManyCodewords (leb maxCount i) _ (omega arith)
           (check-fits P (TooLarge i) (not (isNumber limit n)) _ h (finished-fits P limit (suc i) ns next f (omega arith)))
     ]
 
-decode-fits : (m : ℕ) (s : List ℕ) → Fits (λ x. Unit {0}) (decode (fibonacci m) largest s)
+decode-fits : (m : ℕ) (s : List ℕ) → Fits (λ x. Unit {0}) (decode (fibonacci m) maxNumber s)
 unfolding decode contents
 decode-fits m s =
-    check-fits _ TooManyBytes (ltb mostBytes (length s)) _ (omega arith)
-    (finished-fits _ largest 0 (numbers m (unpack s)) _ (check-fits _ BadRest (spoilt (rest (parse m (unpack s)))) _ (omega arith) tt) (omega arith))
+    check-fits _ TooManyBytes (ltb maxBytes (length s)) _ (omega arith)
+    (finished-fits _ maxNumber 0 (numbers m (unpack s)) _ (check-fits _ BadRest (isBadRest (rest (parse m (unpack s)))) _ (omega arith) tt) (omega arith))
 
-pub bytes-fit : (s : List ℕ) (room : ℕ) → Fits (λ n. n ≤ longest) (readBytes s room)
+pub bytes-fit : (s : List ℕ) (room : ℕ) → Fits (λ n. n ≤ maxCount) (readBytes s room)
 unfolding readBytes
 bytes-fit s room =
-    then-fits _ (decode (fibonacci 3) largest s) _ (decode-fits 3 s)
-    (λ row e. check-fits _ NoRoom (ltb room (4 * length row)) _ (omega arith) (decode-is 3 largest s row e .long))
+    rw (table-decode s) (then-fits _ (decode (fibonacci 3) maxNumber s) _ (decode-fits 3 s)
+    (λ row e. check-fits _ NoRoom (ltb room (4 * length row)) _ (omega arith) (decode-is 3 maxNumber s row e .long)))
 
-pub total-fits : (m : ℕ) (s : List ℕ) (a b : ℕ) → Fits (λ x. x ≤ largest * longest) (total m s a b)
+pub total-fits : (m : ℕ) (s : List ℕ) (a b : ℕ) → Fits (λ x. x ≤ maxNumber * maxCount) (total m s a b)
 unfolding total
 total-fits m s a b =
     check-fits _ BadOrder (not (isOrder m)) _ (omega arith)
-    (then-fits _ (decode (fibonacci m) largest s) _ (decode-fits m s)
+    (then-fits _ (decode (fibonacci m) maxNumber s) _ (decode-fits m s)
     (λ row e. check-fits _ BadSpan (ltb b a) _ (omega arith) (check-fits _ BadSpan (ltb (length row) b) _ (omega arith) (span-most m s row e a b))))

@@ -4,14 +4,14 @@ ghost use Prim.Native.Nat.{_≤_};
 ghost use lib.ListN.{length};
 ghost use Rattle.calls.specs.Refusals.{reason};
 ghost use Rattle.calls.specs.Calls.{refused};
-ghost use Rattle.calls.specs.Limits.{longest};
+ghost use Rattle.calls.specs.Limits.{maxCount};
 ghost use Rattle.totals.specs.Totals.{total};
 ghost use Rattle.table_decoder.specs.Reading.{readBytes, readBytesInto};
 ghost use Rattle.host.specs.Host.{hostNumber};
 
 // The host's number for a refusal. Both functions refuse no place above 4,096.
 fn number_of(r: calls::Refusal) -> u64
-    requires { ⌜ reason r .1 ≤ longest ⌝ }
+    requires { ⌜ reason r .1 ≤ maxCount ⌝ }
     ensures { λ n. ⌜ n ≡ hostNumber (refused r) ⌝ }
 {
     let told = calls::reason(r);

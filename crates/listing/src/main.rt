@@ -3,14 +3,14 @@
 ghost use mathlib.Core.Path.{_≡_};
 ghost use Prim.Native.Nat.{_≤_};
 ghost use lib.ListN.{length, take};
-ghost use Rattle.listing_text.specs.Listing.{text, mostText};
-ghost use Rattle.listing.specs.Reading.{bytesRead};
+ghost use Rattle.listing_text.specs.Listing.{text, maxTextBytes};
+ghost use Rattle.listing.specs.Leaves.{bytesRead};
 use libc::STDERR_FILENO;
 use libc::STDIN_FILENO;
 use libc::STDOUT_FILENO;
 
 // One byte more than an input may have: who has read so many knows that there are too many.
-const MOST_READ: usize = 45068;
+const READ_BYTES: usize = 45068;
 
 enum Input {
     // So many bytes, up to the end of the input or of the buffer.
@@ -39,9 +39,9 @@ fn read(buf: &mut [u8]) -> Input
 }
 
 // The text for an input, in a buffer that has room for every one.
-fn print(input: &[u8], out: &mut [u8; listing_text::MOST_TEXT]) -> usize
-    requires { ⌜ length (now out) ≡ mostText ⌝ }
-    ensures { λ r. ⌜ (take r (now (out .exit)) ≡ text (now (input .entry))) × (r ≤ mostText) × (length (now (out .exit)) ≡ mostText) ⌝ }
+fn print(input: &[u8], out: &mut [u8; listing_text::MAX_TEXT_BYTES]) -> usize
+    requires { ⌜ length (now out) ≡ maxTextBytes ⌝ }
+    ensures { λ r. ⌜ (take r (now (out .exit)) ≡ text (now (input .entry))) × (r ≤ maxTextBytes) × (length (now (out .exit)) ≡ maxTextBytes) ⌝ }
 {
     match listing_text::listing(input, out) {
         calls::CountAnswer::Count(n) => n,
@@ -54,12 +54,12 @@ fn complain(message: &[u8]) {
 }
 
 fn main() {
-    let mut buf = [0u8; MOST_READ];
+    let mut buf = [0u8; READ_BYTES];
     let input = read(&mut buf);
     match input {
         Input::Unreadable => complain(b"listing: the input cannot be read\n"),
         Input::Bytes(n) => {
-            let mut out = [0u8; listing_text::MOST_TEXT];
+            let mut out = [0u8; listing_text::MAX_TEXT_BYTES];
             let size = print(&buf[..n], &mut out);
             if !io::write_all(STDOUT_FILENO, &out[..size]) {
                 complain(b"listing: the output cannot be written\n");

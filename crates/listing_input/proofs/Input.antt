@@ -9,11 +9,11 @@ use lib.Dec.{eqb, ltb}
 use lib.ListN.{length, take, drop, set, replicate, length-append, take-append-drop, length-take, length-drop, drop-of-length-le}
 use lib.Seq.{take-at, drop-at, drop-drop, take-suc-set, sets, sets-eq, set-at}
 use borrow.Author.Tests.{eq-eqb, eqb-true, lt-ltb, ltb-true}
+use Rattle.lists.specs.Lists.{All}
 use Rattle.columns.specs.Columns.{column, decimal}
 use Rattle.columns.proofs.Columns.{column-length, column-number, column-below}
 use Rattle.calls.proofs.Checks.{both}
-use Rattle.calls.specs.Limits.{All}
-use Rattle.fibonacci.specs.Tables.{bounded}
+use Rattle.fibonacci.specs.Tables.{numberOrZero}
 use Rattle.listing_input.specs.Input.{inputLine, inputOf, fieldsOf, fields, same, isInput, InputForm}
 
 -- ## Equal lists
@@ -144,7 +144,7 @@ others s i = fieldsOf (length s / 11 - i) (after s i)
 -- after i lines, each of the form: the others decide, and with their numbers the list has all
 pub record Parsed (s : List ℕ) (i : ℕ) (numbers : List ℕ) : Type 0 where
   pub form : isInput s ≡ same (after s i) (inputOf (others s i))
-  pub kept : take i numbers ++ map bounded (others s i) ≡ map bounded (fields s)
+  pub kept : take i numbers ++ map numberOrZero (others s i) ≡ map numberOrZero (fields s)
 
 pub parsed-none : (s numbers : List ℕ) → (length s ≡ 0 → ⊥) → Parsed s 0 numbers
 unfolding isInput fields
@@ -175,16 +175,16 @@ module _ (s : List ℕ) (i : ℕ) (h : i < length s / 11) (n : ℕ) (e : n ≡ d
   parsed-other numbers p q = p .form ∙ split ∙ rw q refl
 
   pub parsed-more : (numbers : List ℕ) → Parsed s i numbers → same (take 11 (after s i)) (inputLine n) ≡ true → i < length numbers
-      → Parsed s (i + 1) (set numbers i (bounded n))
+      → Parsed s (i + 1) (set numbers i (numberOrZero n))
   parsed-more numbers p q room =
-      let one : take (i + 1) (set numbers i (bounded n)) ≡ take i numbers ++ (bounded n ∷ []) = rw add-one (take-suc-set numbers i (bounded n) room) in
+      let one : take (i + 1) (set numbers i (numberOrZero n)) ≡ take i numbers ++ (numberOrZero n ∷ []) = rw add-one (take-suc-set numbers i (numberOrZero n) room) in
       record {
         form = p .form ∙ split ∙ rw q refl;
-        kept = rw (one, append-assoc (take i numbers) (bounded n ∷ []) (map bounded (others s (i + 1)))) (rw left at (p .kept));
+        kept = rw (one, append-assoc (take i numbers) (numberOrZero n ∷ []) (map numberOrZero (others s (i + 1)))) (rw left at (p .kept));
       }
 
 pub parsed-end : (s : List ℕ) (i : ℕ) (numbers : List ℕ) → Parsed s i numbers → length s / 11 * 11 ≡ length s → i ≡ length s / 11
-    → (isInput s ≡ true) × (take (length s / 11) numbers ≡ map bounded (fields s))
+    → (isInput s ≡ true) × (take (length s / 11) numbers ≡ map numberOrZero (fields s))
 unfolding fieldsOf inputOf flatten same
 parsed-end s i numbers p whole e =
     let none : length s / 11 - i ≡ 0 = omega arith in

@@ -5,8 +5,8 @@ use mathlib.Core.List.{List, [], _∷_, _++_, map, flatten}
 use Prim.Native.Nat.{ℕ, zero, suc, _/_, _^_, _≤_, _<_}
 use lib.Dec.{eqb, ltb}
 use lib.ListN.{length, take, drop}
+use Rattle.lists.specs.Lists.{All}
 use Rattle.columns.specs.Columns.{ascii, column, decimal}
-use Rattle.calls.specs.Limits.{All}
 
 -- A line: a number right-justified with spaces in 10 columns, without leading zeros, and a line feed
 abbrev pub inputLine : ℕ → List ℕ
@@ -17,8 +17,8 @@ unfoldable pub inputOf : List ℕ → List ℕ
 inputOf ns = flatten (map inputLine ns)
 
 -- How many bytes an input has at most: the lines of an order and of the numbers of the longest row
-abbrev pub mostInput : ℕ
-mostInput = 45067
+abbrev pub maxInputBytes : ℕ
+maxInputBytes = 45067
 
 -- The numbers in the first 10 bytes of every 11, so many of them
 unfoldable pub fieldsOf : ℕ → List ℕ → List ℕ

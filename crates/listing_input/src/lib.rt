@@ -4,11 +4,11 @@ ghost use mathlib.Core.Bool.{true};
 ghost use mathlib.Core.List.{map};
 ghost use Prim.Native.Nat.{_/_, _≤_};
 ghost use lib.ListN.{length, take};
-ghost use Rattle.fibonacci.specs.Tables.{bounded};
-ghost use Rattle.listing_input.specs.Input.{inputLine, fields, mostInput, isInput, same};
+ghost use Rattle.fibonacci.specs.Tables.{numberOrZero};
+ghost use Rattle.listing_input.specs.Input.{inputLine, fields, maxInputBytes, isInput, same};
 
 // How many bytes an input has at most, and a line of it; how many lines that makes.
-pub const MOST_INPUT: usize = 45067;
+pub const MAX_INPUT_BYTES: usize = 45067;
 
 pub const LINE: usize = 11;
 
@@ -26,15 +26,15 @@ fn is_line(line: &[u8], n: u64) -> bool
 
 // A number as one of 32 bits; one above 4,294,967,295 as 0, which is no order and no number of a row either.
 fn clip(n: u64) -> u32
-    ensures { λ r. ⌜ r ≡ bounded n ⌝ }
+    ensures { λ r. ⌜ r ≡ numberOrZero n ⌝ }
 {
-    if n <= calls::LARGEST { n as u32 } else { 0 }
+    if n <= calls::MAX_NUMBER { n as u32 } else { 0 }
 }
 
 // Whether each line of the input is of the form, and there is one; the numbers then begin the list. The listing sees before that the input is not long.
 pub fn parse(input: &[u8], numbers: &mut [u32; LINES]) -> bool
-    requires { ⌜ (length (now input) ≤ mostInput) × (length (now numbers) ≡ 4097) ⌝ }
-    ensures { λ r. ⌜ (r ≡ isInput (now (input .entry))) × (r ≡ true → take (length (now (input .entry)) / 11) (now (numbers .exit)) ≡ map bounded (fields (now (input .entry)))) × (length (now (numbers .exit)) ≡ 4097) ⌝ }
+    requires { ⌜ (length (now input) ≤ maxInputBytes) × (length (now numbers) ≡ 4097) ⌝ }
+    ensures { λ r. ⌜ (r ≡ isInput (now (input .entry))) × (r ≡ true → take (length (now (input .entry)) / 11) (now (numbers .exit)) ≡ map numberOrZero (fields (now (input .entry)))) × (length (now (numbers .exit)) ≡ 4097) ⌝ }
 {
     if input.len() == 0 {
         return false;

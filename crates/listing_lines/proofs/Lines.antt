@@ -8,7 +8,7 @@ use lib.ListN.{length, getD, drop, length-append, drop-of-length-le}
 use lib.Seq.{sets, drop-cons}
 use Rattle.columns.proofs.Columns.{column-length, sets-then}
 use Rattle.fibonacci.specs.Code.{codeword}
-use Rattle.calls.specs.Limits.{largest}
+use Rattle.calls.specs.Limits.{maxNumber}
 use Rattle.listing_lines.specs.Lines.{header, rowLine, rowLines, lastLine, lines}
 
 -- ## Lengths
@@ -41,13 +41,13 @@ lines-length m row bytes =
 
 -- after i numbers: their sum, which is not large; the lines of the others make the whole
 abbrev pub Listed : ℕ → List ℕ → ℕ → ℕ → List ℕ → List ℕ → Type 0
-Listed m row i total now old = (total ≤ largest * i) × (sets now (38 + 38 * i) (rowLines m i total (drop i row)) ≡ sets old 38 (rowLines m 0 0 row))
+Listed m row i total now old = (total ≤ maxNumber * i) × (sets now (38 + 38 * i) (rowLines m i total (drop i row)) ≡ sets old 38 (rowLines m 0 0 row))
 
 pub listed-none : (m : ℕ) (row old : List ℕ) → Listed m row 0 0 old old
 listed-none m row old = (omega arith, refl)
 
 module _ (m : ℕ) (row : List ℕ) (i total : ℕ) (now old : List ℕ) (p : Listed m row i total now old) where
-  pub listed-more : (n bits : ℕ) (new : List ℕ) → i < length row → n ≡ getD row i 0 → n ≤ largest → bits ≡ length (codeword m n)
+  pub listed-more : (n bits : ℕ) (new : List ℕ) → i < length row → n ≡ getD row i 0 → n ≤ maxNumber → bits ≡ length (codeword m n)
       → new ≡ sets now (38 + 38 * i) (rowLine i n bits (total + n)) → Listed m row (i + 1) (total + n) new old
   unfolding rowLines
   listed-more n bits new h e b q s =

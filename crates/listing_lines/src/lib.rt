@@ -3,7 +3,7 @@ ghost use mathlib.Core.Path.{_≡_};
 ghost use Prim.Native.Nat.{_+_, _*_, _≤_};
 ghost use lib.ListN.{length};
 ghost use lib.Seq.{sets};
-ghost use Rattle.calls.specs.Limits.{Order, Legal, largest, longest};
+ghost use Rattle.calls.specs.Limits.{Order, Legal, maxNumber, maxCount};
 ghost use Rattle.listing_lines.specs.Lines.{rowLine, rowLines, lines};
 
 // A number's line, from byte `at` on.
@@ -20,7 +20,7 @@ fn put_line(out: &mut [u8], at: usize, place: u64, n: u64, bits: u64, total: u64
 
 // The lines of a row, after the header.
 fn put_rows(out: &mut [u8], order: usize, row: &[u32])
-    requires { ⌜ Order order × (length (now row) ≤ longest) × Legal largest (now row) × (38 + 38 * length (now row) ≤ length (now out)) ⌝ }
+    requires { ⌜ Order order × (length (now row) ≤ maxCount) × Legal maxNumber (now row) × (38 + 38 * length (now row) ≤ length (now out)) ⌝ }
     ensures { λ r. ⌜ now (out .exit) ≡ sets (now (out .entry)) 38 (rowLines order 0 0 (now (row .entry))) ⌝ }
 {
     let firsts = fibonacci::first_numbers(order);
@@ -35,7 +35,7 @@ fn put_rows(out: &mut [u8], order: usize, row: &[u32])
 
 // The whole listing of a row. The listing program's text has the row checked, and has seen that there is room.
 pub fn put_lines(out: &mut [u8], order: usize, row: &[u32], bytes: usize)
-    requires { ⌜ Order order × (length (now row) ≤ longest) × Legal largest (now row) × (55 + 38 * length (now row) ≤ length (now out)) ⌝ }
+    requires { ⌜ Order order × (length (now row) ≤ maxCount) × Legal maxNumber (now row) × (55 + 38 * length (now row) ≤ length (now out)) ⌝ }
     ensures { λ r. ⌜ now (out .exit) ≡ sets (now (out .entry)) 0 (lines order (now (row .entry)) bytes) ⌝ }
 {
     columns::put_text(out, 0, b"PLACE     NUMBER BITS           TOTAL\n");

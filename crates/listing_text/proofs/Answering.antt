@@ -14,84 +14,84 @@ use Rattle.calls.specs.declared.Refusal.{Refusal}
 use Rattle.calls.specs.declared.Refusal.the-variants.{TooMuchInput, BadLine}
 use Rattle.calls.specs.Refusals.{reason}
 use Rattle.calls.specs.Calls.{Outcome, accepted, refused}
-use Rattle.calls.specs.Limits.{Legal, largest, longest, mostBytes, Order}
-use Rattle.fibonacci.specs.Tables.{bounded}
-use Rattle.codewords.proofs.Codewords.{stem-long}
+use Rattle.calls.specs.Limits.{Legal, maxNumber, maxCount, maxBytes, Order}
+use Rattle.fibonacci.specs.Tables.{numberOrZero}
+use Rattle.codewords.proofs.Codewords.{body-long}
 use Rattle.encoder.specs.Writing.{write}
 use Rattle.encoder.proofs.Writing.{write-is}
-use Rattle.listing_input.specs.Input.{mostInput, fields, isInput}
+use Rattle.listing_input.specs.Input.{maxInputBytes, fields, isInput}
 use Rattle.listing_lines.specs.Lines.{lines}
 use Rattle.listing_lines.proofs.Lines.{lines-length}
-use Rattle.listing_text.specs.Listing.{refusalLine, listingOf, listing, printed, text, mostText, TextFits, WholeLines, NothingCut}
+use Rattle.listing_text.specs.Listing.{refusalLine, listingOf, listing, printed, text, maxTextBytes, TextFits, WholeLines, NothingCut}
 use Rattle.listing_input.proofs.Input.{fields-length, input-form}
-use Rattle.listing_text.proofs.Clipping.{listing-same, order-row, bounded-below}
+use Rattle.listing_text.proofs.Clipping.{listing-same, order-row, number-below}
 use Rattle.listing_text.proofs.Printing.{refusal-length}
 
 -- ## The listing of a row
 
-pub list-written : (m : ℕ) (row : List ℕ) (bytes bits : ℕ) → accepted (bytes, bits) ≡ write m row mostBytes → lines m row bytes ≡ printed (listingOf m row)
+pub list-written : (m : ℕ) (row : List ℕ) (bytes bits : ℕ) → accepted (bytes, bits) ≡ write m row maxBytes → lines m row bytes ≡ printed (listingOf m row)
 unfolding listingOf
 list-written m row bytes bits e = rw (← e) refl
 
-pub list-refused : (m : ℕ) (row : List ℕ) (r : Refusal) → refused r ≡ write m row mostBytes → refusalLine (reason r .0) ≡ printed (listingOf m row)
+pub list-refused : (m : ℕ) (row : List ℕ) (r : Refusal) → refused r ≡ write m row maxBytes → refusalLine (reason r .0) ≡ printed (listingOf m row)
 unfolding listingOf
 list-refused m row r e = rw (← e) refl
 
 -- ## The text of an input
 
 module _ (s : List ℕ) where
-  pub text-long : mostInput < length s → refusalLine 4 ≡ text s
+  pub text-long : maxInputBytes < length s → refusalLine 4 ≡ text s
   unfolding text listing
-  text-long h = rw (lt-ltb mostInput (length s) h) refl
+  text-long h = rw (lt-ltb maxInputBytes (length s) h) refl
 
-  pub text-other : length s ≤ mostInput → isInput s ≡ false → refusalLine 13 ≡ text s
+  pub text-other : length s ≤ maxInputBytes → isInput s ≡ false → refusalLine 13 ≡ text s
   unfolding text listing
-  text-other h q = rw (le-ltb mostInput (length s) h, q) refl
+  text-other h q = rw (le-ltb maxInputBytes (length s) h, q) refl
 
-  pub text-list : length s ≤ mostInput → isInput s ≡ true → printed (listingOf (getD (fields s) 0 0) (drop 1 (fields s))) ≡ text s
+  pub text-list : length s ≤ maxInputBytes → isInput s ≡ true → printed (listingOf (getD (fields s) 0 0) (drop 1 (fields s))) ≡ text s
   unfolding text listing
-  text-list h q = rw (le-ltb mostInput (length s) h, q) refl
+  text-list h q = rw (le-ltb maxInputBytes (length s) h, q) refl
 
   -- the order and the row are in a list of 32-bit numbers
-  pub text-row : (numbers : List ℕ) → length s ≤ mostInput → isInput s ≡ true → take (length s / 11) numbers ≡ map bounded (fields s)
-      → (1 ≤ length s / 11) × (getD numbers 0 0 ≤ largest) × (printed (listingOf (getD numbers 0 0) (take (length s / 11 - 1) (drop 1 numbers))) ≡ text s)
+  pub text-row : (numbers : List ℕ) → length s ≤ maxInputBytes → isInput s ≡ true → take (length s / 11) numbers ≡ map numberOrZero (fields s)
+      → (1 ≤ length s / 11) × (getD numbers 0 0 ≤ maxNumber) × (printed (listingOf (getD numbers 0 0) (take (length s / 11 - 1) (drop 1 numbers))) ≡ text s)
   text-row numbers h q e =
       let some = input-form .lines-are s q .1 in
       let count : 1 ≤ length s / 11 = omega (arith, fields-length s) in
       let r = order-row (length s / 11) numbers (fields s) count some e in (
         count,
-        omega (arith, r .0, bounded-below (getD (fields s) 0 0)),
+        omega (arith, r .0, number-below (getD (fields s) 0 0)),
         ap printed (ap₂ listingOf (r .0) (r .1) ∙ listing-same (getD (fields s) 0 0) (drop 1 (fields s))) ∙ text-list h q,
       )
 
 -- ## How long a text is
 
-list-fits : (m : ℕ) (row t : List ℕ) → listingOf m row ≡ accepted t → length t ≤ mostText
+list-fits : (m : ℕ) (row t : List ℕ) → listingOf m row ≡ accepted t → length t ≤ maxTextBytes
 unfolding listingOf
 list-fits m row t e =
-    let p = then-passed (write m row mostBytes) _ t e in
-    let w = write-is m row mostBytes (p .0 .0) (p .0 .1) (p .1) in
+    let p = then-passed (write m row maxBytes) _ t e in
+    let w = write-is m row maxBytes (p .0 .0) (p .0 .1) (p .1) in
     omega (arith, ap length (accepted-one (p .2)), lines-length m row (p .0 .0), w .0 .count)
 
 pub text-fits : TextFits
 unfolding text listing
 text-fits s = by (listing s) refl
   where
-    by : (o : Outcome (List ℕ)) → listing s ≡ o → length (printed o) ≤ mostText
+    by : (o : Outcome (List ℕ)) → listing s ≡ o → length (printed o) ≤ maxTextBytes
     by (refused r) e = omega (arith, refusal-length (reason r .0))
     by (accepted t) e =
-        let p4 = check-passed TooMuchInput (ltb mostInput (length s)) _ t e in
+        let p4 = check-passed TooMuchInput (ltb maxInputBytes (length s)) _ t e in
         let p13 = check-passed BadLine (not (isInput s)) _ t (p4 .1) in
         list-fits _ _ t (p13 .1)
 
 -- ## Digits
 
-lines-whole : (m place total : ℕ) (row : List ℕ) → Order m → Legal largest row → place + length row ≤ longest → total ≤ largest * place
+lines-whole : (m place total : ℕ) (row : List ℕ) → Order m → Legal maxNumber row → place + length row ≤ maxCount → total ≤ maxNumber * place
     → WholeLines m place total row
 lines-whole m place total [] o a p t = tt
 lines-whole m place total (n ∷ row) o a p t =
-    let l = number-is largest n (a .0) in
-    let b = stem-long m n (size m n n 0) o (l .0) (l .1) refl in (
+    let l = number-is maxNumber n (a .0) in
+    let b = body-long m n (size m n n 0) o (l .0) (l .1) refl in (
       column-number 5 place (omega arith),
       column-number 11 n (omega (arith, l .1)),
       column-number 5 (length (codeword m n)) (omega (arith, b .0, b .1)),
@@ -101,5 +101,5 @@ lines-whole m place total (n ∷ row) o a p t =
 
 pub nothing-cut : NothingCut
 nothing-cut m row bytes bits e =
-    let w = write-is m row mostBytes bytes bits e in
+    let w = write-is m row maxBytes bytes bits e in
     (lines-whole m 0 0 row (w .0 .order) (w .0 .legal) (omega (arith, w .0 .count)) (omega arith), column-number 11 bytes (omega (arith, w .0 .fits, w .1)))

@@ -12,36 +12,36 @@ use Rattle.calls.proofs.Checks.{order-is, number-is, above-number, each-accepte
 use Rattle.calls.specs.declared.Refusal.{Refusal}
 use Rattle.calls.specs.declared.Refusal.the-variants.{BadOrder, BadNumber, TooManyNumbers}
 use Rattle.calls.specs.Calls.{Outcome, accepted, refused, check, andThen}
-use Rattle.calls.specs.Limits.{within, isOrder, isNumber, Legal, largest, longest, checkEach}
-use Rattle.fibonacci.specs.Tables.{bounded}
-use Rattle.fibonacci.proofs.Lookup.{bounded-is, bounded-not}
+use Rattle.calls.specs.Limits.{within, isOrder, isNumber, Legal, maxNumber, maxCount, checkEach}
+use Rattle.fibonacci.specs.Tables.{numberOrZero}
+use Rattle.fibonacci.proofs.Lookup.{number-kept, number-zero}
 use Rattle.encoder.specs.Writing.{write}
 use Rattle.listing_lines.specs.Lines.{lines}
 use Rattle.listing_text.specs.Listing.{listingOf}
 
-number-same : (n : ℕ) → isNumber largest (bounded n) ≡ isNumber largest n
+number-same : (n : ℕ) → isNumber maxNumber (numberOrZero n) ≡ isNumber maxNumber n
 number-same n =
-    elim (decLe n largest) [
-      | yes h ↦ ap (isNumber largest) (bounded-is n h)
-      | no h ↦ ap (isNumber largest) (bounded-not n (omega arith)) ∙ none ∙ sym (above-number largest n (omega arith) (omega arith))
+    elim (decLe n maxNumber) [
+      | yes h ↦ ap (isNumber maxNumber) (number-kept n h)
+      | no h ↦ ap (isNumber maxNumber) (number-zero n (omega arith)) ∙ none ∙ sym (above-number maxNumber n (omega arith) (omega arith))
     ]
   where
-    none : isNumber largest 0 ≡ false
+    none : isNumber maxNumber 0 ≡ false
     none = unfold isNumber in refl
 
-order-same : (m : ℕ) → isOrder (bounded m) ≡ isOrder m
+order-same : (m : ℕ) → isOrder (numberOrZero m) ≡ isOrder m
 unfolding isOrder
 order-same m =
-    elim (decLe m largest) [
-      | yes h ↦ ap (within 2 6) (bounded-is m h)
-      | no h ↦ ap (within 2 6) (bounded-not m (omega arith)) ∙ sym (ap (λ (t : Bool). leb 2 m && t) (lt-leb m 6 (omega arith)) ∙ and-false (leb 2 m))
+    elim (decLe m maxNumber) [
+      | yes h ↦ ap (within 2 6) (number-kept m h)
+      | no h ↦ ap (within 2 6) (number-zero m (omega arith)) ∙ sym (ap (λ (t : Bool). leb 2 m && t) (lt-leb m 6 (omega arith)) ∙ and-false (leb 2 m))
     ]
 
-row-same : (row : List ℕ) → Legal largest row → map bounded row ≡ row
+row-same : (row : List ℕ) → Legal maxNumber row → map numberOrZero row ≡ row
 row-same [] a = refl
-row-same (n ∷ row) a = ap₂ _∷_ (bounded-is n (number-is largest n (a .0) .1)) (row-same row (a .1))
+row-same (n ∷ row) a = ap₂ _∷_ (number-kept n (number-is maxNumber n (a .0) .1)) (row-same row (a .1))
 
-each-same : {A : Type 0} (place : ℕ) (row : List ℕ) (next : Outcome A) → checkEach BadNumber largest place (map bounded row) next ≡ checkEach BadNumber largest place row next
+each-same : {A : Type 0} (place : ℕ) (row : List ℕ) (next : Outcome A) → checkEach BadNumber maxNumber place (map numberOrZero row) next ≡ checkEach BadNumber maxNumber place row next
 unfolding checkEach
 each-same place [] next = refl
 each-same place (n ∷ row) next =
@@ -50,45 +50,45 @@ each-same place (n ∷ row) next =
 -- ## The listing of a row
 
 -- a number is at fault: whatever it is, the listing is refused
-list-fault : (m : ℕ) (row : List ℕ) (r : Refusal) → checkEach {A = ℕ} BadNumber largest 0 row (accepted 0) ≡ refused r
-    → listingOf m row ≡ check BadOrder (not (isOrder m)) (check TooManyNumbers (ltb longest (length row)) (refused r))
+list-fault : (m : ℕ) (row : List ℕ) (r : Refusal) → checkEach {A = ℕ} BadNumber maxNumber 0 row (accepted 0) ≡ refused r
+    → listingOf m row ≡ check BadOrder (not (isOrder m)) (check TooManyNumbers (ltb maxCount (length row)) (refused r))
 unfolding listingOf write
 list-fault m row r e =
-    ap (λ (o : Outcome (ℕ × ℕ)). andThen (check BadOrder (not (isOrder m)) (check TooManyNumbers (ltb longest (length row)) o)) (λ x. accepted (lines m row (x .0))))
-    (each-refused BadNumber largest 0 row 0 r _ e)
-    ∙ none (not (isOrder m)) (ltb longest (length row)) _
+    ap (λ (o : Outcome (ℕ × ℕ)). andThen (check BadOrder (not (isOrder m)) (check TooManyNumbers (ltb maxCount (length row)) o)) (λ x. accepted (lines m row (x .0))))
+    (each-refused BadNumber maxNumber 0 row 0 r _ e)
+    ∙ none (not (isOrder m)) (ltb maxCount (length row)) _
   where
     none : (t u : Bool) (next : ℕ × ℕ → Outcome (List ℕ)) → andThen (check BadOrder t (check TooManyNumbers u (refused r))) next ≡ check BadOrder t (check TooManyNumbers u (refused r))
     none true u next = refl
     none false true next = refl
     none false false next = refl
 
-list-row : (m : ℕ) (row : List ℕ) → listingOf m (map bounded row) ≡ listingOf m row
-list-row m row = by (checkEach {A = ℕ} BadNumber largest 0 row (accepted 0)) refl
+list-row : (m : ℕ) (row : List ℕ) → listingOf m (map numberOrZero row) ≡ listingOf m row
+list-row m row = by (checkEach {A = ℕ} BadNumber maxNumber 0 row (accepted 0)) refl
   where
-    by : (o : Outcome ℕ) → checkEach {A = ℕ} BadNumber largest 0 row (accepted 0) ≡ o → listingOf m (map bounded row) ≡ listingOf m row
-    by (accepted x) e = ap (listingOf m) (row-same row (each-accepted BadNumber largest 0 row _ x e .0))
+    by : (o : Outcome ℕ) → checkEach {A = ℕ} BadNumber maxNumber 0 row (accepted 0) ≡ o → listingOf m (map numberOrZero row) ≡ listingOf m row
+    by (accepted x) e = ap (listingOf m) (row-same row (each-accepted BadNumber maxNumber 0 row _ x e .0))
     by (refused r) e =
-        list-fault m (map bounded row) r (each-same 0 row (accepted 0) ∙ e)
-        ∙ ap (λ (n : ℕ). check BadOrder (not (isOrder m)) (check TooManyNumbers (ltb longest n) (refused r))) (length-map row bounded)
+        list-fault m (map numberOrZero row) r (each-same 0 row (accepted 0) ∙ e)
+        ∙ ap (λ (n : ℕ). check BadOrder (not (isOrder m)) (check TooManyNumbers (ltb maxCount n) (refused r))) (length-map row numberOrZero)
         ∙ sym (list-fault m row r e)
 
 list-order : (m : ℕ) (row : List ℕ) → isOrder m ≡ false → listingOf m row ≡ refused BadOrder
 unfolding listingOf write
 list-order m row o = rw o refl
 
-pub listing-same : (m : ℕ) (row : List ℕ) → listingOf (bounded m) (map bounded row) ≡ listingOf m row
+pub listing-same : (m : ℕ) (row : List ℕ) → listingOf (numberOrZero m) (map numberOrZero row) ≡ listingOf m row
 listing-same m row = by (isOrder m) refl
   where
-    by : (t : Bool) → isOrder m ≡ t → listingOf (bounded m) (map bounded row) ≡ listingOf m row
-    by true o = ap (λ (k : ℕ). listingOf k (map bounded row)) (bounded-is m (omega (arith, order-is m o .1))) ∙ list-row m row
-    by false o = list-order (bounded m) (map bounded row) (order-same m ∙ o) ∙ sym (list-order m row o)
+    by : (t : Bool) → isOrder m ≡ t → listingOf (numberOrZero m) (map numberOrZero row) ≡ listingOf m row
+    by true o = ap (λ (k : ℕ). listingOf k (map numberOrZero row)) (number-kept m (omega (arith, order-is m o .1))) ∙ list-row m row
+    by false o = list-order (numberOrZero m) (map numberOrZero row) (order-same m ∙ o) ∙ sym (list-order m row o)
 
 -- ## The order and the row in a list
 
 -- the first numbers of a list are those of the input: the first of them is the order, the others are the row
-pub order-row : (count : ℕ) (numbers ns : List ℕ) → 1 ≤ count → 1 ≤ length ns → take count numbers ≡ map bounded ns
-    → (getD numbers 0 0 ≡ bounded (getD ns 0 0)) × (take (count - 1) (drop 1 numbers) ≡ map bounded (drop 1 ns))
+pub order-row : (count : ℕ) (numbers ns : List ℕ) → 1 ≤ count → 1 ≤ length ns → take count numbers ≡ map numberOrZero ns
+    → (getD numbers 0 0 ≡ numberOrZero (getD ns 0 0)) × (take (count - 1) (drop 1 numbers) ≡ map numberOrZero (drop 1 ns))
 order-row zero numbers ns h k e = absurd (omega arith)
 order-row (suc count) numbers [] h k e = absurd (omega arith)
 order-row (suc count) [] (n ∷ ns) h k e = absurd (omega (arith, ap length e))
@@ -98,9 +98,9 @@ order-row (suc count) (x ∷ numbers) (n ∷ ns) h k e =
       ap (λ (j : ℕ). take j numbers) one ∙ ap (drop 1) e,
     )
 
-pub bounded-below : (n : ℕ) → bounded n ≤ largest
-bounded-below n =
-    elim (decLe n largest) [
-      | yes h ↦ omega (arith, bounded-is n h)
-      | no h ↦ omega (arith, bounded-not n (omega arith))
+pub number-below : (n : ℕ) → numberOrZero n ≤ maxNumber
+number-below n =
+    elim (decLe n maxNumber) [
+      | yes h ↦ omega (arith, number-kept n h)
+      | no h ↦ omega (arith, number-zero n (omega arith))
     ]

@@ -11,10 +11,10 @@ use Rattle.calls.specs.declared.Refusal.the-variants.{TooMuchInput, BadLine}
 use Rattle.calls.specs.declared.CountAnswer.{CountAnswer}
 use Rattle.calls.specs.Refusals.{reason}
 use Rattle.calls.specs.Calls.{Outcome, accepted, refused, check, andThen, buffer, countOutcome}
-use Rattle.calls.specs.Limits.{mostBytes}
+use Rattle.calls.specs.Limits.{maxBytes}
 use Rattle.calls.specs.Reading.{counted}
 use Rattle.encoder.specs.Writing.{write}
-use Rattle.listing_input.specs.Input.{mostInput, fields, isInput}
+use Rattle.listing_input.specs.Input.{maxInputBytes, fields, isInput}
 use Rattle.listing_lines.specs.Lines.{lines}
 
 -- ## What is printed: the lines of a listing, or that of a refusal
@@ -27,13 +27,13 @@ refusalLine number = ascii "NO" ++ column 5 number ++ ascii "\n"
 
 -- The checks of writing, and the listing
 unfoldable pub listingOf : ℕ → List ℕ → Outcome (List ℕ)
-listingOf m row = andThen (write m row mostBytes) (λ x. accepted (lines m row (x .0)))
+listingOf m row = andThen (write m row maxBytes) (λ x. accepted (lines m row (x .0)))
 
 -- Listing program: 4 input above 45,067 bytes; 13 an input line of another form, or no line; then write's checks. The first number is the order, the
 -- others are the row
 unfoldable pub listing : List ℕ → Outcome (List ℕ)
 listing s =
-    check TooMuchInput (ltb mostInput (length s))
+    check TooMuchInput (ltb maxInputBytes (length s))
     (check BadLine (not (isInput s))
     (listingOf (getD (fields s) 0 0) (drop 1 (fields s))))
 
@@ -60,11 +60,11 @@ Puts t before answer after = (countOutcome answer ≡ put t (length before)) × 
 -- ## What holds of every text
 
 -- No text is longer than this: the header, a line for each number of the longest row, and the last line
-abbrev pub mostText : ℕ
-mostText = 155703
+abbrev pub maxTextBytes : ℕ
+maxTextBytes = 155703
 
 abbrev pub TextFits : Type 0
-TextFits = (s : List ℕ) → length (text s) ≤ mostText
+TextFits = (s : List ℕ) → length (text s) ≤ maxTextBytes
 
 -- A number is whole in its columns: they give it back
 abbrev pub Whole : ℕ → ℕ → Type 0
@@ -77,4 +77,4 @@ WholeLines m place total (n ∷ ns) =
 
 -- No column of a listing cuts a digit off
 abbrev pub NothingCut : Type 0
-NothingCut = (m : ℕ) (row : List ℕ) (bytes bits : ℕ) → write m row mostBytes ≡ accepted (bytes, bits) → WholeLines m 0 0 row × Whole 11 bytes
+NothingCut = (m : ℕ) (row : List ℕ) (bytes bits : ℕ) → write m row maxBytes ≡ accepted (bytes, bits) → WholeLines m 0 0 row × Whole 11 bytes

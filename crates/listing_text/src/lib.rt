@@ -5,7 +5,7 @@ use calls::CountAnswer;
 use calls::Refusal;
 
 // How many bytes a text has at most.
-pub const MOST_TEXT: usize = 155703;
+pub const MAX_TEXT_BYTES: usize = 155703;
 
 // The line of a refusal.
 fn refuse(out: &mut [u8], r: Refusal) -> CountAnswer
@@ -25,7 +25,7 @@ fn refuse(out: &mut [u8], r: Refusal) -> CountAnswer
 fn list(order: usize, row: &[u32], out: &mut [u8]) -> CountAnswer
     ensures { λ r. ⌜ Puts (printed (listingOf order (now (row .entry)))) (now (out .entry)) r (now (out .exit)) ⌝ }
 {
-    let mut encoding = [0u8; calls::MOST_BYTES];
+    let mut encoding = [0u8; calls::MAX_BYTES];
     let written = encoder::write(order, row, &mut encoding);
     match written {
         encoder::WriteAnswer::Refused(r) => refuse(out, r),
@@ -44,7 +44,7 @@ fn list(order: usize, row: &[u32], out: &mut [u8]) -> CountAnswer
 pub fn listing(input: &[u8], out: &mut [u8]) -> CountAnswer
     ensures { λ r. ⌜ Puts (text (now (input .entry))) (now (out .entry)) r (now (out .exit)) ⌝ }
 {
-    if input.len() > listing_input::MOST_INPUT {
+    if input.len() > listing_input::MAX_INPUT_BYTES {
         return refuse(out, Refusal::TooMuchInput);
     }
     let mut numbers = [0u32; listing_input::LINES];

@@ -7,7 +7,7 @@ ghost use Rattle.reading.specs.Reading.{read, readInto};
 ghost use Rattle.totals.specs.Totals.{total, repeatedTotal};
 ghost use Rattle.encoder.specs.Writing.{write, writeInto};
 ghost use Rattle.appender.specs.Appending.{append, appendInto};
-ghost use Rattle.table_decoder.specs.Reading.{readBytes, readBytesInto};
+ghost use Rattle.table_decoder.specs.Reading.{readTable, readTableInto, readBytes, readBytesInto};
 ghost use Rattle.wavelet.specs.Questions.{build, buildInto, extract, rank, select};
 ghost use Rattle.listing_text.specs.Listing.{text, put, putInto};
 ghost use Rattle.answers.specs.Answers.{single, pair, values};
@@ -49,7 +49,7 @@ pub extern "C" fn probe_read(order: usize, s: &[u8], out: &mut [u32], answer: &m
 
 #[no_mangle]
 pub extern "C" fn probe_table_read(s: &[u8], out: &mut [u32], answer: &mut [u64])
-    ensures { λ r. ⌜ (now (answer .exit) ≡ told (single (read 3 (now (s .entry)) (length (now (out .entry))))) (now (answer .entry))) × (now (out .exit) ≡ readInto 3 (now (s .entry)) (now (out .entry))) ⌝ }
+    ensures { λ r. ⌜ (now (answer .exit) ≡ told (single (readTable (now (s .entry)) (length (now (out .entry))))) (now (answer .entry))) × (now (out .exit) ≡ readTableInto (now (s .entry)) (now (out .entry))) ⌝ }
 {
     tell(answer, answers::of_count(table_decoder::read(s, out)));
 }

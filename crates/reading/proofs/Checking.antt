@@ -15,12 +15,12 @@ use Rattle.fibonacci.specs.Code.{ones, value, first, number}
 use Rattle.fibonacci.specs.Encoding.{parsed, parse, numbers}
 use Rattle.calls.specs.declared.Refusal.the-variants.{TooManyCodewords, TooLarge, BadRest}
 use Rattle.calls.specs.Calls.{accepted, refused, check}
-use Rattle.calls.specs.Limits.{isNumber, Legal, largest, longest}
+use Rattle.calls.specs.Limits.{isNumber, Legal, maxNumber, maxCount}
 use Rattle.calls.specs.Reading.{contents}
 use Rattle.calls.proofs.Checks.{both, number-is, above-number}
 use Rattle.calls.proofs.Finished.{finished-all, finished-many, finished-large, finished-past}
 use Rattle.fibonacci.proofs.Numeration.{F-pos}
-use Rattle.reading.specs.Reading.{spoilt, fibonacci}
+use Rattle.reading.specs.Reading.{isBadRest, fibonacci}
 
 -- ## Pending bits at the end
 
@@ -46,16 +46,16 @@ count-ones (suc k) = omega (arith, count-ones k)
 abbrev pub Padding : ℕ → ℕ → ℕ → Bool
 Padding len val run = ltb len 8 && (eqb val 0 && eqb run 0)
 
--- Of the pending bits before those ones, `stem`, only a length below 8 and the value then need be known
-module _ (m : ℕ) (stem : List Bool) (len val run : ℕ) (pos : 1 ≤ m) (short : len < 8 → (length stem ≡ len) × (val ≡ value m 1 stem)) (far : 8 ≤ len → 8 ≤ length stem) where
+-- Of the pending bits before those ones, `body`, only a length below 8 and the value then need be known
+module _ (m : ℕ) (body : List Bool) (len val run : ℕ) (pos : 1 ≤ m) (short : len < 8 → (length body ≡ len) × (val ≡ value m 1 body)) (far : 8 ≤ len → 8 ≤ length body) where
   abbrev pending : List Bool
-  pending = stem ++ ones run
+  pending = body ++ ones run
 
-  pending-long : length pending ≡ length stem + run
-  pending-long = omega (arith, length-append stem (ones run), length-replicate run true)
+  pending-long : length pending ≡ length body + run
+  pending-long = omega (arith, length-append body (ones run), length-replicate run true)
 
-  pending-ones : count true pending ≡ count true stem + run
-  pending-ones = omega (arith, count-append true stem (ones run), count-ones run)
+  pending-ones : count true pending ≡ count true body + run
+  pending-ones = omega (arith, count-append true body (ones run), count-ones run)
 
   pub padding-is : Padding len val run ≡ true → (length pending < 8) × (count true pending ≡ 0) × (run ≡ 0)
   padding-is e =
@@ -63,8 +63,8 @@ module _ (m : ℕ) (stem : List Bool) (len val run : ℕ) (pos : 1 ≤ m) (short
       let q = both (eqb val 0) (eqb run 0) (p .1) in
       let s = short (ltb-true len 8 (p .0)) in
       let r : run ≡ 0 = eqb-true run 0 (q .1) in
-      let v : value m 1 stem ≡ 0 = omega (arith, eqb-true val 0 (q .0), s .1) in
-      (omega (arith, pending-long, s .0, ltb-true len 8 (p .0)), omega (arith, pending-ones, value-none m 1 stem v pos), r)
+      let v : value m 1 body ≡ 0 = omega (arith, eqb-true val 0 (q .0), s .1) in
+      (omega (arith, pending-long, s .0, ltb-true len 8 (p .0)), omega (arith, pending-ones, value-none m 1 body v pos), r)
 
   pub padding-not : Padding len val run ≡ false → (8 ≤ length pending) ⊎ (1 ≤ count true pending)
   padding-not e =
@@ -74,7 +74,7 @@ module _ (m : ℕ) (stem : List Bool) (len val run : ℕ) (pos : 1 ≤ m) (short
             elim (decLe 1 (count true pending)) [
               | yes c ↦ inr c
               | no c ↦
-                  let v : val ≡ 0 = omega (arith, short (omega arith) .1, none-value m 1 stem (omega (arith, pending-ones))) in
+                  let v : val ≡ 0 = omega (arith, short (omega arith) .1, none-value m 1 body (omega (arith, pending-ones))) in
                   let r : run ≡ 0 = omega (arith, pending-ones) in
                   absurd (true≢false (sym (simp (lt-ltb len 8 (omega arith), eq-eqb val 0 v, eq-eqb run 0 r)) ∙ e))
             ]
@@ -83,66 +83,66 @@ module _ (m : ℕ) (stem : List Bool) (len val run : ℕ) (pos : 1 ≤ m) (short
 -- ## What the contents of an encoding are refused for
 
 -- the rest
-spoilt-bad : (r : List Bool) → (8 ≤ length r) ⊎ (1 ≤ count true r) → spoilt r ≡ true
-spoilt-bad r (inl l) = simp (le-leb 8 (length r) l)
-spoilt-bad r (inr c) = rw (le-leb 1 (count true r) c) (or-true (leb 8 (length r)))
+rest-bad : (r : List Bool) → (8 ≤ length r) ⊎ (1 ≤ count true r) → isBadRest r ≡ true
+rest-bad r (inl l) = simp (le-leb 8 (length r) l)
+rest-bad r (inr c) = rw (le-leb 1 (count true r) c) (or-true (leb 8 (length r)))
 
-pub spoilt-not : (r : List Bool) → length r < 8 → count true r ≡ 0 → spoilt r ≡ false
-spoilt-not r l c = simp (lt-leb 8 (length r) l, lt-leb 1 (count true r) (omega arith))
+pub rest-good : (r : List Bool) → length r < 8 → count true r ≡ 0 → isBadRest r ≡ false
+rest-good r l c = simp (lt-leb 8 (length r) l, lt-leb 1 (count true r) (omega arith))
 
 -- The numbers `done` have passed their checks, and what comes after them decides
 module _ (limit m : ℕ) (s done : List ℕ) (legal : Legal limit done) where
   abbrev b : List Bool
   b = unpack s
 
-  pub contents-many : (x : ℕ) (more : List ℕ) → numbers m b ≡ done ++ (x ∷ more) → length done ≡ longest
+  pub contents-many : (x : ℕ) (more : List ℕ) → numbers m b ≡ done ++ (x ∷ more) → length done ≡ maxCount
       → contents (fibonacci m) limit s ≡ refused TooManyCodewords
   unfolding contents
   contents-many x more e l = rw e (finished-many limit done legal _ x more l)
 
-  pub contents-large : (x : ℕ) (more : List ℕ) → numbers m b ≡ done ++ (x ∷ more) → length done < longest → isNumber limit x ≡ false
+  pub contents-large : (x : ℕ) (more : List ℕ) → numbers m b ≡ done ++ (x ∷ more) → length done < maxCount → isNumber limit x ≡ false
       → contents (fibonacci m) limit s ≡ refused (TooLarge (length done))
   unfolding contents
   contents-large x more e l n = rw e (finished-large limit done legal _ x more l n)
 
-  pub contents-past : (more : List ℕ) → numbers m b ≡ done ++ more → longest < length done → contents (fibonacci m) limit s ≡ refused TooManyCodewords
+  pub contents-past : (more : List ℕ) → numbers m b ≡ done ++ more → maxCount < length done → contents (fibonacci m) limit s ≡ refused TooManyCodewords
   unfolding contents
   contents-past more e l = rw e (finished-past limit 0 done more _ legal (omega arith) (omega arith))
 
   -- no codeword is left, and the rest decides
-  contents-end : (words : List (List Bool)) (r : List Bool) → parse m b ≡ parsed words r → map (number m) words ≡ done → length done ≤ longest
-      → contents (fibonacci m) limit s ≡ check BadRest (spoilt r) (accepted done)
+  contents-end : (words : List (List Bool)) (r : List Bool) → parse m b ≡ parsed words r → map (number m) words ≡ done → length done ≤ maxCount
+      → contents (fibonacci m) limit s ≡ check BadRest (isBadRest r) (accepted done)
   unfolding contents numbers
   contents-end words r e w l = rw (e, w) (finished-all limit done _ legal l)
 
-  pub contents-rest : (words : List (List Bool)) (r : List Bool) → parse m b ≡ parsed words r → map (number m) words ≡ done → length done ≤ longest
+  pub contents-rest : (words : List (List Bool)) (r : List Bool) → parse m b ≡ parsed words r → map (number m) words ≡ done → length done ≤ maxCount
       → (8 ≤ length r) ⊎ (1 ≤ count true r) → contents (fibonacci m) limit s ≡ refused BadRest
-  contents-rest words r e w l c = contents-end words r e w l ∙ ap (λ (t : Bool). check BadRest t (accepted done)) (spoilt-bad r c)
+  contents-rest words r e w l c = contents-end words r e w l ∙ ap (λ (t : Bool). check BadRest t (accepted done)) (rest-bad r c)
 
-  pub contents-good : (words : List (List Bool)) (r : List Bool) → parse m b ≡ parsed words r → map (number m) words ≡ done → length done ≤ longest
+  pub contents-good : (words : List (List Bool)) (r : List Bool) → parse m b ≡ parsed words r → map (number m) words ≡ done → length done ≤ maxCount
       → length r < 8 → count true r ≡ 0 → contents (fibonacci m) limit s ≡ accepted done
-  contents-good words r e w l h z = contents-end words r e w l ∙ ap (λ (t : Bool). check BadRest t (accepted done)) (spoilt-not r h z)
+  contents-good words r e w l h z = contents-end words r e w l ∙ ap (λ (t : Bool). check BadRest t (accepted done)) (rest-good r h z)
 
 -- ## A number by its length and its value
 
 -- What is known of n, made from the `len` bits before the last ones of a codeword and their value, as far as a number of that length can be legal
 abbrev pub Numbered : ℕ → ℕ → ℕ → ℕ → Type 0
-Numbered m len val n = (first m len ≤ largest → n ≡ first m len + val) × (largest < first m len → n ≡ 0)
+Numbered m len val n = (first m len ≤ maxNumber → n ≡ first m len + val) × (maxNumber < first m len → n ≡ 0)
 
 -- The codeword's own number x: n passes the check only where it is x, and fails only where x does
-module _ (m len val n : ℕ) (is : Numbered m len val n) (x : ℕ) (near : first m len ≤ largest → x ≡ first m len + val) (far : largest < first m len → largest < x)
-    (limit : ℕ) (top : limit ≤ largest) where
+module _ (m len val n : ℕ) (is : Numbered m len val n) (x : ℕ) (near : first m len ≤ maxNumber → x ≡ first m len + val) (far : maxNumber < first m len → maxNumber < x)
+    (limit : ℕ) (top : limit ≤ maxNumber) where
   pub numbered-legal : isNumber limit n ≡ true → n ≡ x
   numbered-legal l =
       let pos = number-is limit n l .0 in
-      elim (decLe (first m len) largest) [
+      elim (decLe (first m len) maxNumber) [
         | yes g ↦ omega (arith, is .0 g, near g)
         | no g ↦ absurd (omega (arith, is .1 (omega arith)))
       ]
 
   pub numbered-large : isNumber limit n ≡ false → isNumber limit x ≡ false
   numbered-large l =
-      elim (decLe (first m len) largest) [
+      elim (decLe (first m len) maxNumber) [
         | yes g ↦ let same : n ≡ x = omega (arith, is .0 g, near g) in rw (← same) l
         | no g ↦ above-number limit x (omega (arith, far (omega arith))) (omega (arith, far (omega arith)))
       ]

@@ -12,13 +12,12 @@ use Rattle.fibonacci.specs.Encoding.{rest, parse, numbers}
 use Rattle.calls.specs.declared.Refusal.{Refusal}
 use Rattle.calls.specs.declared.Refusal.the-variants.{BadOrder, TooManyBytes, NoRoom, BadRest}
 use Rattle.calls.specs.Calls.{Outcome, accepted, refused, check}
-use Rattle.calls.specs.Limits.{isOrder, Order, Legal, largest, longest, mostBytes}
+use Rattle.calls.specs.Limits.{isOrder, Order, Legal, maxNumber, maxCount, maxBytes}
 use Rattle.calls.specs.Reading.{contents, decode, counted}
 use Rattle.calls.proofs.Checks.{order-is, is-order, check-passed, then-passed, accepted-one}
 use Rattle.calls.proofs.Finished.{finished-all, finished-passed}
-use Rattle.reading.proofs.Checking.{spoilt-not}
-use Rattle.reading.specs.Demand.{ReturnsParse}
-use Rattle.reading.specs.Reading.{spoilt, fibonacci, read, readInto}
+use Rattle.reading.proofs.Checking.{rest-good}
+use Rattle.reading.specs.Reading.{isBadRest, fibonacci, read, readInto}
 
 neither : (a b : Bool) → (a || b) ≡ false → (a ≡ false) × (b ≡ false)
 neither true b e = absurd (true≢false e)
@@ -26,21 +25,21 @@ neither false b e = (refl, e)
 
 -- ## The check of the length
 
-pub decode-long : (m limit : ℕ) (s : List ℕ) → mostBytes < length s → decode (fibonacci m) limit s ≡ refused TooManyBytes
+pub decode-long : (m limit : ℕ) (s : List ℕ) → maxBytes < length s → decode (fibonacci m) limit s ≡ refused TooManyBytes
 unfolding decode
-decode-long m limit s h = simp (lt-ltb mostBytes (length s) h)
+decode-long m limit s h = simp (lt-ltb maxBytes (length s) h)
 
-pub decode-contents : (m limit : ℕ) (s : List ℕ) → length s ≤ mostBytes → decode (fibonacci m) limit s ≡ contents (fibonacci m) limit s
+pub decode-contents : (m limit : ℕ) (s : List ℕ) → length s ≤ maxBytes → decode (fibonacci m) limit s ≡ contents (fibonacci m) limit s
 unfolding decode
-decode-contents m limit s h = simp (le-ltb mostBytes (length s) h)
+decode-contents m limit s h = simp (le-ltb maxBytes (length s) h)
 
 -- ## What is known of an encoding that is read
 
 pub record Decoded (m limit : ℕ) (s row : List ℕ) : Type 0 where
-  pub bytes : length s ≤ mostBytes
+  pub bytes : length s ≤ maxBytes
   pub is : row ≡ numbers m (unpack s)
   pub legal : Legal limit row
-  pub long : length row ≤ longest
+  pub long : length row ≤ maxCount
   pub short : length (rest (parse m (unpack s))) < 8
   pub zeros : count true (rest (parse m (unpack s))) ≡ 0
 
@@ -48,13 +47,13 @@ pub decode-is : (m limit : ℕ) (s row : List ℕ) → decode (fibonacci m) limi
 unfolding decode contents
 decode-is m limit s row e =
     let r : List Bool = rest (parse m (unpack s)) in
-    let p2 = check-passed TooManyBytes (ltb mostBytes (length s)) _ row e in
+    let p2 = check-passed TooManyBytes (ltb maxBytes (length s)) _ row e in
     let p47 = finished-passed limit 0 (numbers m (unpack s)) _ row (omega arith) (p2 .1) in
-    let p6 = check-passed BadRest (spoilt r) _ row (p47 .2) in
+    let p6 = check-passed BadRest (isBadRest r) _ row (p47 .2) in
     let good = neither (leb 8 (length r)) (leb 1 (count true r)) (p6 .0) in
     let same : row ≡ numbers m (unpack s) = accepted-one (sym (p6 .1)) in
     record {
-      bytes = ltb-false mostBytes (length s) (p2 .0);
+      bytes = ltb-false maxBytes (length s) (p2 .0);
       is = same;
       legal = rw same (p47 .0);
       long = rw same (omega (arith, p47 .1));
@@ -67,16 +66,16 @@ unfolding contents
 decode-accepts m limit s row d =
     let ns : List ℕ = numbers m (unpack s) in
     decode-contents m limit s (d .bytes) ∙ finished-all limit ns _ (rw (← d .is) (d .legal)) (rw (← d .is) (d .long))
-    ∙ ap (λ (t : Bool). check BadRest t (accepted ns)) (spoilt-not (rest (parse m (unpack s))) (d .short) (d .zeros)) ∙ ap accepted (sym (d .is))
+    ∙ ap (λ (t : Bool). check BadRest t (accepted ns)) (rest-good (rest (parse m (unpack s))) (d .short) (d .zeros)) ∙ ap accepted (sym (d .is))
 
 -- ## The answers
 
 pub read-is : (m : ℕ) (s : List ℕ) (room n : ℕ) → read m s room ≡ accepted n
-    → Order m × ((row : List ℕ) × (decode (fibonacci m) largest s ≡ accepted row) × (n ≡ length row) × (length row ≤ room))
+    → Order m × ((row : List ℕ) × (decode (fibonacci m) maxNumber s ≡ accepted row) × (n ≡ length row) × (length row ≤ room))
 unfolding read
 read-is m s room n e =
     let o = check-passed BadOrder (not (isOrder m)) _ n e in
-    let t = then-passed (decode (fibonacci m) largest s) (counted room) n (o .1) in
+    let t = then-passed (decode (fibonacci m) maxNumber s) (counted room) n (o .1) in
     let p = check-passed NoRoom (ltb room (length (t .0))) _ n (t .2) in
     (order-is m (not-false _ (o .0)), (t .0, t .1, sym (accepted-one (p .1)), ltb-false room (length (t .0)) (p .0)))
 
@@ -89,17 +88,7 @@ module _ (m : ℕ) (s before : List ℕ) where
   unfolding read readInto
   read-order o = rw o (refl, refl)
 
-  pub read-row : isOrder m ≡ true → (row : List ℕ) → decode (fibonacci m) largest s ≡ accepted row → length row ≤ length before
+  pub read-row : isOrder m ≡ true → (row : List ℕ) → decode (fibonacci m) maxNumber s ≡ accepted row → length row ≤ length before
       → Reads m s before (row ++ drop (length row) before) (accepted (length row))
   unfolding read readInto
-  read-row o row e h = rw (o, e, le-ltb (length before) (length row) h, ← decode-is m largest s row e .is) (refl, refl)
-
--- Demand 3's last sentence, for the decoder
-pub read-parse : (m : ℕ) → ReturnsParse m (read m) (readInto m)
-read-parse m s before n e =
-    let i = read-is m s (length before) n e in
-    let row = i .1 .0 in
-    let same : row ≡ numbers m (unpack s) = decode-is m largest s row (i .1 .1) .is in (
-      i .1 .2 ∙ ap length same,
-      sym (read-row m s before (is-order m (i .0)) row (i .1 .1) (i .1 .3) .1) ∙ ap₂ (λ (r : List ℕ) (k : ℕ). r ++ drop k before) same (sym (i .1 .2)),
-    )
+  read-row o row e h = rw (o, e, le-ltb (length before) (length row) h, ← decode-is m maxNumber s row e .is) (refl, refl)

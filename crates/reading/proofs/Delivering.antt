@@ -12,7 +12,7 @@ use Rattle.calls.specs.declared.Refusal.the-variants.{NoRoom}
 use Rattle.calls.specs.declared.CountAnswer.{CountAnswer}
 use Rattle.calls.specs.declared.CountAnswer.the-variants.{Count, Refused}
 use Rattle.calls.specs.Calls.{Outcome, accepted, refused, answerResults, check, andThen, buffer, countOutcome}
-use Rattle.calls.specs.Limits.{isOrder, largest}
+use Rattle.calls.specs.Limits.{isOrder, maxNumber}
 use Rattle.calls.specs.Reading.{decode, counted}
 use Rattle.calls.proofs.Checks.{accepted-one, not-both}
 use Rattle.reading.specs.Reading.{fibonacci, read, readInto}
@@ -44,15 +44,15 @@ written-all (accepted row) room list before ns b is = rw (← is row refl) (writ
 written-all (refused r) room list before ns b is = refl
 
 module _ (m : ℕ) (s before list after : List ℕ) (scanned a : CountAnswer) (o : isOrder m ≡ true) where
-  pub delivered-read : countOutcome scanned ≡ counting (decode (fibonacci m) largest s) → Begins (decode (fibonacci m) largest s) list
+  pub delivered-read : countOutcome scanned ≡ counting (decode (fibonacci m) maxNumber s) → Begins (decode (fibonacci m) maxNumber s) list
       → Delivers scanned list before a after → ReadPromise m s before a after
   unfolding read readInto
   delivered-read e b w =
-      let d = decode (fibonacci m) largest s in
+      let d = decode (fibonacci m) maxNumber s in
       let same : countOutcome a ≡ andThen d (counted (length before)) =
       w .0 ∙ ap (λ (x : Outcome ℕ). delivered x (length before)) e ∙ counted-all d (length before) in
       rw o (
         same,
         w .1 ∙ ap (λ (x : Outcome ℕ). buffer x (take (answerResults 0 x) list) before) same
-            ∙ written-all d (length before) list before (numbers m (unpack s)) b (λ row h. decode-is m largest s row h .is),
+            ∙ written-all d (length before) list before (numbers m (unpack s)) b (λ row h. decode-is m maxNumber s row h .is),
       )

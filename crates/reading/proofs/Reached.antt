@@ -58,8 +58,8 @@ settled-is m q b (parsed (w ∷ ws) r) h z f i =
       coded = (
         record {
           once = omega (arith, settled-runs m q w h z, c .once);
-          stem = q ++ c .stem;
-          ends = ap (λ (t : List Bool). q ++ t) (c .ends) ∙ sym (append-assoc q (c .stem) (ones m));
+          body = q ++ c .body;
+          ends = ap (λ (t : List Bool). q ++ t) (c .ends) ∙ sym (append-assoc q (c .body) (ones m));
         },
         i .coded .1,
       );
@@ -77,29 +77,29 @@ parse-more m b t ws r h e =
 
 -- ## How far a scan has come
 
--- The codewords `words` have ended within the first k bits of b; pending are the bits `stem` and then `run` ones
-pub record Reached (m : ℕ) (b : List Bool) (k : ℕ) (words : List (List Bool)) (stem : List Bool) (run : ℕ) : Type 0 where
-  pub left : parse m b ≡ onto words (behind stem (parse m (ones run ++ drop k b)))
+-- The codewords `words` have ended within the first k bits of b; pending are the bits `body` and then `run` ones
+pub record Reached (m : ℕ) (b : List Bool) (k : ℕ) (words : List (List Bool)) (body : List Bool) (run : ℕ) : Type 0 where
+  pub left : parse m b ≡ onto words (behind body (parse m (ones run ++ drop k b)))
   pub few : run < m
 
 pub reached-start : (m : ℕ) (b : List Bool) → 1 ≤ m → Reached m b 0 [] [] 0
 reached-start m b p = record { left = refl; few = p }
 
-pub reached-end : (m : ℕ) (b : List Bool) (k : ℕ) (words : List (List Bool)) (stem : List Bool) (run : ℕ) → length b ≤ k → Reached m b k words stem run
-    → parse m b ≡ parsed words (stem ++ ones run)
-reached-end m b k words stem run h r =
+pub reached-end : (m : ℕ) (b : List Bool) (k : ℕ) (words : List (List Bool)) (body : List Bool) (run : ℕ) → length b ≤ k → Reached m b k words body run
+    → parse m b ≡ parsed words (body ++ ones run)
+reached-end m b k words body run h r =
     r .left
-    ∙ ap (λ (t : List Bool). onto words (behind stem (parse m t)))
+    ∙ ap (λ (t : List Bool). onto words (behind body (parse m t)))
     (ap (λ (t : List Bool). ones run ++ t) (drop-of-length-le b h) ∙ append-nil (ones run))
-    ∙ ap (λ (s : Parse). onto words (behind stem s)) (parse-rest m (ones run) (omega (arith, r .few)) (runs-ones m run (r .few)))
-    ∙ ap (onto words) (behind-rest stem (ones run)) ∙ onto-parsed words (stem ++ ones run)
+    ∙ ap (λ (s : Parse). onto words (behind body s)) (parse-rest m (ones run) (omega (arith, r .few)) (runs-ones m run (r .few)))
+    ∙ ap (onto words) (behind-rest body (ones run)) ∙ onto-parsed words (body ++ ones run)
 
 -- the numbers of the codewords that have ended come first
-pub reached-numbers : {m : ℕ} {b : List Bool} {k : ℕ} {words : List (List Bool)} {stem : List Bool} {run : ℕ} → Reached m b k words stem run
+pub reached-numbers : {m : ℕ} {b : List Bool} {k : ℕ} {words : List (List Bool)} {body : List Bool} {run : ℕ} → Reached m b k words body run
     → (later : List ℕ) × (numbers m b ≡ map (number m) words ++ later)
 unfolding numbers
-reached-numbers {m} {b} {k} {words} {stem} {run} r =
-    let left : Parse = behind stem (parse m (ones run ++ drop k b)) in (
+reached-numbers {m} {b} {k} {words} {body} {run} r =
+    let left : Parse = behind body (parse m (ones run ++ drop k b)) in (
       map (number m) (codewords left),
       ap (λ (s : Parse). map (number m) (codewords s)) (r .left)
           ∙ ap (map (number m)) (onto-codewords words left) ∙ map-append (number m) words (codewords left),
@@ -107,30 +107,30 @@ reached-numbers {m} {b} {k} {words} {stem} {run} r =
 
 -- The law that carries a scan over any bits x, up to bit n, by the parse of the pending ones and x alone: its rest is the bits q, which ones to come cannot
 -- join, and then `run'` ones
-module _ {m : ℕ} {b : List Bool} {k : ℕ} {words : List (List Bool)} {stem : List Bool} {run : ℕ} (r : Reached m b k words stem run)
+module _ {m : ℕ} {b : List Bool} {k : ℕ} {words : List (List Bool)} {body : List Bool} {run : ℕ} (r : Reached m b k words body run)
     (x : List Bool) (n : ℕ) (next : drop k b ≡ x ++ drop n b) (q : List Bool) (run' : ℕ) (z : Settled q) (few' : run' < m) where
   carried : (ws : List (List Bool)) → parse m (ones run ++ x) ≡ parsed ws (q ++ ones run')
-      → parse m b ≡ onto words (behind stem (onto ws (behind q (parse m (ones run' ++ drop n b)))))
+      → parse m b ≡ onto words (behind body (onto ws (behind q (parse m (ones run' ++ drop n b)))))
   carried ws e =
       let h : 1 ≤ m = omega arith in
       let free : runs m (q ++ ones run') ≡ 0 = subst (IsParse m (ones run ++ x)) e (parse-is m (ones run ++ x) h) .free in
-      r .left ∙ ap (λ (s : Parse). onto words (behind stem s))
+      r .left ∙ ap (λ (s : Parse). onto words (behind body s))
       (ap (λ (t : List Bool). parse m (ones run ++ t)) next ∙ ap (parse m) (sym (append-assoc (ones run) x (drop n b)))
       ∙ parse-more m (ones run ++ x) (drop n b) ws (q ++ ones run') h e
       ∙ ap (λ (t : List Bool). onto ws (parse m t)) (append-assoc q (ones run') (drop n b))
       ∙ ap (onto ws) (parse-settled m q (ones run' ++ drop n b) h z (omega (arith, settled-runs m q (ones run') h z))))
 
   -- no codeword ends
-  pub reached-open : parse m (ones run ++ x) ≡ parsed [] (q ++ ones run') → Reached m b n words (stem ++ q) run'
+  pub reached-open : parse m (ones run ++ x) ≡ parsed [] (q ++ ones run') → Reached m b n words (body ++ q) run'
   reached-open e =
-      record { left = carried [] e ∙ ap (onto words) (sym (behind-append stem q (parse m (ones run' ++ drop n b)))); few = few' }
+      record { left = carried [] e ∙ ap (onto words) (sym (behind-append body q (parse m (ones run' ++ drop n b)))); few = few' }
 
   -- one ends, w with the bits that were pending, and perhaps more do
   pub reached-shut : (w : List Bool) (ws : List (List Bool)) → parse m (ones run ++ x) ≡ parsed (w ∷ ws) (q ++ ones run')
-      → Reached m b n (words ++ ((stem ++ w) ∷ ws)) q run'
+      → Reached m b n (words ++ ((body ++ w) ∷ ws)) q run'
   reached-shut w ws e =
       let later : Parse = behind q (parse m (ones run' ++ drop n b)) in
       record {
-        left = carried (w ∷ ws) e ∙ ap (onto words) (behind-prepend stem w (onto ws later)) ∙ onto-append words ((stem ++ w) ∷ ws) later;
+        left = carried (w ∷ ws) e ∙ ap (onto words) (behind-prepend body w (onto ws later)) ∙ onto-append words ((body ++ w) ∷ ws) later;
         few = few';
       }

@@ -8,21 +8,21 @@ use Rattle.bits.specs.Bits.{unpack, count}
 use Rattle.fibonacci.specs.Encoding.{rest, parse, numbers}
 use Rattle.calls.specs.declared.Refusal.the-variants.{BadOrder, BadRest}
 use Rattle.calls.specs.Calls.{Outcome, check, andThen, buffer}
-use Rattle.calls.specs.Limits.{isOrder, largest, mostBytes}
+use Rattle.calls.specs.Limits.{isOrder, maxNumber, maxBytes}
 use Rattle.calls.specs.Reading.{Code, decode, counted}
 
 -- 6: the rest (paper 01: the remainder) has 8 bits or more or holds a one
-abbrev pub spoilt : List Bool → Bool
-spoilt r = leb 8 (length r) || leb 1 (count true r)
+abbrev pub isBadRest : List Bool → Bool
+isBadRest r = leb 8 (length r) || leb 1 (count true r)
 
 -- The Fibonacci code of order m, as far as reading goes by it
 abbrev pub fibonacci : ℕ → Code
 fibonacci m =
-    record { most = mostBytes; numbers = λ s. numbers m (unpack s); unfinished = λ s. spoilt (rest (parse m (unpack s))); fault = BadRest }
+    record { byteLimit = maxBytes; numbers = λ s. numbers m (unpack s); unfinished = λ s. isBadRest (rest (parse m (unpack s))); fault = BadRest }
 
 -- Read: 1; 2, then 4 and 7, 6; 5 the output is shorter than the row; else the count
 unfoldable pub read : ℕ → List ℕ → ℕ → Outcome ℕ
-read m s room = check BadOrder (not (isOrder m)) (andThen (decode (fibonacci m) largest s) (counted room))
+read m s room = check BadOrder (not (isOrder m)) (andThen (decode (fibonacci m) maxNumber s) (counted room))
 
 -- The output after reading
 unfoldable pub readInto : ℕ → List ℕ → List ℕ → List ℕ

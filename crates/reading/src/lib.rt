@@ -5,7 +5,7 @@ ghost use Prim.Native.Nat.{_+_, _^_, _≤_, _<_};
 ghost use lib.Dec.{eqb, ltb};
 ghost use lib.ListN.{length};
 ghost use Rattle.fibonacci.specs.Code.{first};
-ghost use Rattle.calls.specs.Limits.{largest};
+ghost use Rattle.calls.specs.Limits.{maxNumber};
 ghost use Rattle.reading.specs.Answers.{Holds, Delivers};
 ghost use Rattle.fibonacci.specs.Tables.{Firsts};
 
@@ -13,7 +13,7 @@ ghost use Rattle.fibonacci.specs.Tables.{Firsts};
 // order before, and each bit or byte of an encoding adds little to a value.
 pub fn number(firsts: &[u32; 47], order: usize, len: usize, val: u64) -> u64
     requires { ⌜ Firsts order (now firsts) × (val < 2 ^ 63) ⌝ }
-    ensures { λ r. ⌜ (first order len ≤ largest → r ≡ first order len + val) × (largest < first order len → r ≡ 0) ⌝ }
+    ensures { λ r. ⌜ (first order len ≤ maxNumber → r ≡ first order len + val) × (maxNumber < first order len → r ≡ 0) ⌝ }
 {
     let least = fibonacci::first_number(firsts, order, len);
     if least == 0 { 0 } else { least + val }

@@ -4,22 +4,20 @@ ghost use mathlib.Core.List.{_++_};
 ghost use Prim.Native.Nat.{_+_, _*_, _≤_};
 ghost use lib.ListN.{length, take, drop};
 ghost use lib.Seq.{sets};
-ghost use Rattle.calls.specs.Calls.{countOutcome};
-ghost use Rattle.calls.specs.Limits.{largest};
+ghost use Rattle.calls.specs.Limits.{maxNumber};
 ghost use Rattle.calls.specs.Reading.{decode};
 ghost use Rattle.reading.specs.Reading.{fibonacci};
-ghost use Rattle.reading.specs.Answers.{ReadPromise};
-ghost use Rattle.table_scan.specs.Answers.{Scanned};
-ghost use Rattle.table_decoder.specs.Reading.{numberBytes, rowBytes, readBytes, readBytesInto};
+ghost use Rattle.table_scan.specs.Leaves.{Scanned};
+ghost use Rattle.table_decoder.specs.Reading.{ReadTablePromise, numberBytes, rowBytes, ReadBytesPromise};
 use calls::CountAnswer;
 use calls::Refusal;
 
 // The scan of an encoding, whose numbers go up to a limit: its checks, and how many numbers the row has. The row goes to a list of the caller's own.
 fn scan_into(s: &[u8], limit: u64, row: &mut [u32; table_scan::ROOM]) -> CountAnswer
-    requires { ⌜ (limit ≤ largest) × (length (now row) ≡ 4098) ⌝ }
+    requires { ⌜ (limit ≤ maxNumber) × (length (now row) ≡ 4098) ⌝ }
     ensures { λ r. ⌜ Scanned (decode (fibonacci 3) limit (now (s .entry))) r (now (row .exit)) ⌝ }
 {
-    if s.len() > calls::MOST_BYTES {
+    if s.len() > calls::MAX_BYTES {
         return CountAnswer::Refused(Refusal::TooManyBytes);
     }
     let heads = byte_table::heads();
@@ -31,10 +29,10 @@ fn scan_into(s: &[u8], limit: u64, row: &mut [u32; table_scan::ROOM]) -> CountAn
 
 // Reads an encoding of order 3. The row goes to a list of its own first, as a refusal must leave the output as it was.
 pub fn read(s: &[u8], out: &mut [u32]) -> CountAnswer
-    ensures { λ r. ⌜ ReadPromise 3 (now (s .entry)) (now (out .entry)) r (now (out .exit)) ⌝ }
+    ensures { λ r. ⌜ ReadTablePromise (now (s .entry)) (now (out .entry)) r (now (out .exit)) ⌝ }
 {
     let mut row: [u32; table_scan::ROOM] = [0; table_scan::ROOM];
-    let scanned = scan_into(s, calls::LARGEST, &mut row);
+    let scanned = scan_into(s, calls::MAX_NUMBER, &mut row);
     reading::deliver(scanned, &row, out)
 }
 
@@ -61,10 +59,10 @@ fn put_row(out: &mut [u8], row: &[u32], n: usize)
 
 // Reads an encoding of order 3 for a host that takes each number as four bytes, the lowest first.
 pub fn read_bytes(s: &[u8], out: &mut [u8]) -> CountAnswer
-    ensures { λ r. ⌜ (countOutcome r ≡ readBytes (now (s .entry)) (length (now (out .entry)))) × (now (out .exit) ≡ readBytesInto (now (s .entry)) (now (out .entry))) ⌝ }
+    ensures { λ r. ⌜ ReadBytesPromise (now (s .entry)) (now (out .entry)) r (now (out .exit)) ⌝ }
 {
     let mut row: [u32; table_scan::ROOM] = [0; table_scan::ROOM];
-    let scanned = scan_into(s, calls::LARGEST, &mut row);
+    let scanned = scan_into(s, calls::MAX_NUMBER, &mut row);
     if let CountAnswer::Count(count) = scanned {
         if out.len() < 4 * count {
             return CountAnswer::Refused(Refusal::NoRoom);

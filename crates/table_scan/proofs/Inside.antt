@@ -6,8 +6,8 @@ use Prim.Native.Nat.{ℕ, suc, _+_, _≤_}
 use native.Mathlib.Omega.{arith}
 use lib.ListN.{length, getD, take, drop, length-append, length-take}
 use lib.Seq.{sets, sets-eq, take-append-le, take-append-add}
+use Rattle.lists.specs.Lists.{All}
 use Rattle.fibonacci.specs.Code.{Codeword, number}
-use Rattle.calls.specs.Limits.{All}
 use Rattle.fibonacci.specs.Encoding.{Positive, Parse, parsed, codewords, rest}
 use Rattle.fibonacci.proofs.Numbers.{codeword-number}
 

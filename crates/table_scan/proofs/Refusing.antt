@@ -7,16 +7,16 @@ use native.Mathlib.Omega.{arith}
 use native.Mathlib.Decide.{decLe}
 use lib.ListN.{length, getD, length-append}
 use borrow.Author.Tests.{le-leb, lt-leb}
+use Rattle.lists.proofs.Each.{all-append}
 use Rattle.bits.specs.Bits.{unpack}
 use Rattle.calls.specs.Calls.{refused}
-use Rattle.calls.specs.Limits.{isNumber, Legal, longest}
+use Rattle.calls.specs.Limits.{isNumber, Legal, maxCount}
 use Rattle.calls.specs.Reading.{contents}
 use Rattle.calls.proofs.Checks.{is-number, above-number}
-use Rattle.calls.proofs.Each.{all-append}
 use Rattle.fibonacci.specs.Encoding.{Positive, numbers}
 use Rattle.reading.specs.Reading.{fibonacci}
 use Rattle.reading.proofs.Checking.{contents-many, contents-large, contents-past}
-use Rattle.table_scan.specs.Answers.{Passes, faultAt}
+use Rattle.table_scan.specs.Leaves.{Passes, faultAt}
 
 module _ (limit x : ℕ) where
   -- the first at fault, after so many that pass
@@ -48,10 +48,10 @@ module _ (limit x : ℕ) where
 refused-at : (limit : ℕ) (s done : List ℕ) (y : ℕ) (more : List ℕ) → Legal limit done → numbers 3 (unpack s) ≡ done ++ (y ∷ more) → isNumber limit y ≡ false
     → contents (fibonacci 3) limit s ≡ refused (faultAt (length done))
 refused-at limit s done y more a e bad =
-    elim (decLe longest (length done)) [
-      | no h ↦ rw (lt-leb longest (length done) (omega arith), faultAt) (contents-large limit 3 s done a y more e (omega arith) bad)
+    elim (decLe maxCount (length done)) [
+      | no h ↦ rw (lt-leb maxCount (length done) (omega arith), faultAt) (contents-large limit 3 s done a y more e (omega arith) bad)
       | yes h ↦
-          rw (le-leb longest (length done) h, faultAt) (elim (decLe (length done) longest) [
+          rw (le-leb maxCount (length done) h, faultAt) (elim (decLe (length done) maxCount) [
             | yes l ↦ contents-many limit 3 s done a y more e (omega arith)
             | no l ↦ contents-past limit 3 s done a (y ∷ more) e (omega arith)
           ])

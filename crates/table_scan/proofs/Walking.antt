@@ -9,26 +9,26 @@ use lib.Dec.{ltb, eqb}
 use borrow.Author.Tests.{ne-eqb}
 use lib.ListN.{length, getD, take, length-append, length-map}
 use lib.Seq.{sets, length-sets}
+use Rattle.lists.proofs.Each.{all-append}
 use Rattle.bits.specs.Bits.{wordBits, unpack}
 use Rattle.bits.proofs.Bytes.{unpack-length}
 use Rattle.fibonacci.specs.Code.{ones, first, number}
 use Rattle.fibonacci.specs.Encoding.{Positive, Parse, parsed, rest, IsParse, parse, numbers}
 use Rattle.calls.specs.declared.Refusal.the-variants.{TooManyCodewords, BadRest}
 use Rattle.calls.specs.Calls.{accepted, refused}
-use Rattle.calls.specs.Limits.{isNumber, Legal, largest, longest}
+use Rattle.calls.specs.Limits.{isNumber, Legal, maxNumber, maxCount}
 use Rattle.calls.specs.Reading.{contents}
-use Rattle.calls.proofs.Each.{all-append}
 use Rattle.calls.proofs.Checks.{number-is}
 use Rattle.fibonacci.proofs.Parse.{parse-is}
 use Rattle.byte_table.specs.declared.Row.{Row}
-use Rattle.byte_table.specs.Table.{stem, trail, after, front, inside, byF, byF1, byF2, moved, rowOf, rowAt, Small}
+use Rattle.byte_table.specs.Leaves.{withoutTrailing, trailingOnes, after, front, inside, byF, byF1, byF2, moved, rowOfParse, rowAt, Small}
 use Rattle.reading.specs.Reading.{fibonacci}
 use Rattle.reading.proofs.Reached.{Reached, reached-start, reached-open, reached-shut, reached-numbers, reached-end}
 use Rattle.reading.proofs.Checking.{Padding, padding-is, padding-not, contents-many, contents-past, contents-rest, contents-good, Numbered, numbered-legal, numbered-large}
-use Rattle.table_scan.specs.Answers.{Passes, faultAt}
+use Rattle.table_scan.specs.Leaves.{Passes, faultAt}
 use Rattle.table_scan.proofs.Refusing.{none, refused-in}
 use Rattle.table_scan.proofs.Inside.{few-are, first-three, taken, coded-positive, open-parse, shut-parse}
-use Rattle.table_scan.proofs.Stepping.{stem-settled, stem-trail, trail-few, front-ones, row-after, bits-next, Pending, pending-none, pending-left, pending-more, pending-held, pending-near, pending-far}
+use Rattle.table_scan.proofs.Stepping.{without-settled, without-trailing, trailing-few, front-ones, row-after, bits-next, Pending, pending-none, pending-left, pending-more, pending-clamped, pending-near, pending-far}
 
 -- ## What the loop keeps
 
@@ -39,16 +39,16 @@ state-zero (suc run) {state} e = ne-eqb state 0 (λ z. omega arith) ∙ sym (ne-
 -- After i bytes: the numbers that ended are legal and stored, and what is pending is known by its length and value and by its ones, 256 for each
 pub record Walked (limit : ℕ) (s : List ℕ) (i : ℕ) (row : List ℕ) (count len val state : ℕ) : Type 0 where
   pub words : List (List Bool)
-  pub stem : List Bool
+  pub body : List Bool
   pub run : ℕ
-  pub reached : Reached 3 (unpack s) (8 * i) words stem run
+  pub reached : Reached 3 (unpack s) (8 * i) words body run
   pub many : length words ≡ count
-  pub most : count ≤ longest
+  pub most : count ≤ maxCount
   pub legal : Legal limit (map (number 3) words)
   pub stored : take count row ≡ map (number 3) words
   pub room : length row ≡ 4098
-  pub pending : Pending stem len val
-  pub held : len ≤ 37
+  pub pending : Pending body len val
+  pub clamped : len ≤ 37
   pub small : val ≤ 2 ^ 43 * i
   pub at : state ≡ 256 * run
 
@@ -56,7 +56,7 @@ pub walked-start : (limit : ℕ) (s row : List ℕ) → length row ≡ 4098 → 
 walked-start limit s row h =
     record {
       words = [];
-      stem = [];
+      body = [];
       run = 0;
       reached = reached-start 3 (unpack s) (omega arith);
       many = refl;
@@ -65,7 +65,7 @@ walked-start limit s row h =
       stored = refl;
       room = h;
       pending = pending-none;
-      held = omega arith;
+      clamped = omega arith;
       small = omega arith;
       at = refl;
     }
@@ -86,7 +86,7 @@ module _ {limit : ℕ} {s : List ℕ} {i : ℕ} {row : List ℕ} {count len val 
     pub byte : getD s i 0 < 256
     pub row-is : r ≡ rowAt (state + getD s i 0)
     pub few : Small r
-    pub worth : v ≡ moved len (r .x) (r .y) (r .z)
+    pub bitValue : v ≡ moved len (r .x) (r .y) (r .z)
 
   module _ {r : Row} {v : ℕ} (step : Step r v) where
     x : List Bool
@@ -99,38 +99,38 @@ module _ {limit : ℕ} {s : List ℕ} {i : ℕ} {row : List ℕ} {count len val 
     unfolding p x after
     p-is = refl
 
-    row-of : r ≡ rowOf p
+    row-of : r ≡ rowOfParse p
     unfolding p
     row-of = step .row-is ∙ ap (λ (m : ℕ). rowAt (m + getD s i 0)) (k .at) ∙ row-after (k .run) (getD s i 0) (step .byte)
 
     -- the pending bits with the row's
-    grown : (q : List Bool) → r .len ≡ length q → r .x ≡ byF q → r .y ≡ byF1 q + byF2 q → r .z ≡ byF1 q → Pending (k .stem ++ q) (len + r .len) (val + v)
-    grown q l a b c = rw (step .worth, l, a, b, c) (pending-more (k .stem) len val q (k .pending))
+    grown : (q : List Bool) → r .len ≡ length q → r .x ≡ byF q → r .y ≡ byF1 q + byF2 q → r .z ≡ byF1 q → Pending (k .body ++ q) (len + r .len) (val + v)
+    grown q l a b c = rw (step .bitValue, l, a, b, c) (pending-more (k .body) len val q (k .pending))
 
     -- no codeword ends
     pub walked-open : r .count ≡ 0 → (len' : ℕ) → (len + r .len < 37 → len' ≡ len + r .len) → (37 ≤ len + r .len → len' ≡ 37) → v < 2 ^ 43
         → Walked limit s (i + 1) row count len' (val + v) (r .next)
-    unfolding rowOf front
+    unfolding rowOfParse front
     walked-open none len' short long low =
         let e : p ≡ parsed [] (rest p) = open-parse p (sym (ap (λ (r : Row). r .count) row-of) ∙ none) in
-        let f : r ≡ rowOf (parsed [] (rest p)) = row-of ∙ ap rowOf e in
-        let q : List Bool = stem (rest p) in
+        let f : r ≡ rowOfParse (parsed [] (rest p)) = row-of ∙ ap rowOfParse e in
+        let q : List Bool = withoutTrailing (rest p) in
         record {
           words = k .words;
-          stem = k .stem ++ q;
-          run = trail (rest p);
+          body = k .body ++ q;
+          run = trailingOnes (rest p);
           reached =
-              reached-open (k .reached) x (8 * (i + 1)) (unfold x in bits-next s i (step .more)) q (trail (rest p)) (stem-settled (rest p)) (trail-few _ (rest p) [] (sym p-is ∙ e))
-              (sym p-is ∙ e ∙ ap (parsed []) (stem-trail (rest p)));
+              reached-open (k .reached) x (8 * (i + 1)) (unfold x in bits-next s i (step .more)) q (trailingOnes (rest p)) (without-settled (rest p)) (trailing-few _ (rest p) [] (sym p-is ∙ e))
+              (sym p-is ∙ e ∙ ap (parsed []) (without-trailing (rest p)));
           many = k .many;
           most = k .most;
           legal = k .legal;
           stored = k .stored;
           room = k .room;
           pending =
-              pending-held _ (len + r .len) len' _
+              pending-clamped _ (len + r .len) len' _
               (grown q (ap (λ (r : Row). r .len) f) (ap (λ (r : Row). r .x) f) (ap (λ (r : Row). r .y) f) (ap (λ (r : Row). r .z) f)) short long;
-          held = elim (decLe 37 (len + r .len)) [ yes l ↦ omega (arith, long l) | no l ↦ omega (arith, short (omega arith)) ];
+          clamped = elim (decLe 37 (len + r .len)) [ yes l ↦ omega (arith, long l) | no l ↦ omega (arith, short (omega arith)) ];
           small = omega (arith, k .small);
           at = ap (λ (r : Row). r .next) f;
         }
@@ -138,20 +138,20 @@ module _ {limit : ℕ} {s : List ℕ} {i : ℕ} {row : List ℕ} {count len val 
     -- a codeword ends
     module _ (some : r .count ≡ 0 → ⊥) where
       cut : (w : List Bool) × (ws : List (List Bool)) × (p ≡ parsed (w ∷ ws) (rest p))
-      cut = shut-parse p (λ e. some (ap (λ (r : Row). r .count) row-of ∙ (unfold rowOf in e)))
+      cut = shut-parse p (λ e. some (ap (λ (r : Row). r .count) row-of ∙ (unfold rowOfParse in e)))
 
       abbrev q : List Bool
       q = front (parsed (cut .0 ∷ cut .1) (rest p))
 
       abbrev ended : List Bool
-      ended = k .stem ++ cut .0
+      ended = k .body ++ cut .0
 
       -- the numbers of the codewords inside the byte
       abbrev within : List ℕ
       within = map (number 3) (cut .1)
 
-      row-cut : r ≡ rowOf (parsed (cut .0 ∷ cut .1) (rest p))
-      row-cut = row-of ∙ ap rowOf (cut .2)
+      row-cut : r ≡ rowOfParse (parsed (cut .0 ∷ cut .1) (rest p))
+      row-cut = row-of ∙ ap rowOfParse (cut .2)
 
       parse-cut : parse 3 (ones (k .run) ++ x) ≡ parsed (cut .0 ∷ cut .1) (rest p)
       parse-cut = sym p-is ∙ cut .2
@@ -159,37 +159,37 @@ module _ {limit : ℕ} {s : List ℕ} {i : ℕ} {row : List ℕ} {count len val 
       is-cut : IsParse 3 (ones (k .run) ++ x) (parsed (cut .0 ∷ cut .1) (rest p))
       is-cut = subst (IsParse 3 (ones (k .run) ++ x)) parse-cut (parse-is 3 (ones (k .run) ++ x) (omega arith))
 
-      reached-next : Reached 3 (unpack s) (8 * (i + 1)) (k .words ++ (ended ∷ cut .1)) (stem (rest p)) (trail (rest p))
+      reached-next : Reached 3 (unpack s) (8 * (i + 1)) (k .words ++ (ended ∷ cut .1)) (withoutTrailing (rest p)) (trailingOnes (rest p))
       reached-next =
-          reached-shut (k .reached) x (8 * (i + 1)) (unfold x in bits-next s i (step .more)) (stem (rest p)) (trail (rest p)) (stem-settled (rest p)) (trail-few _ (rest p) _ parse-cut)
-          (cut .0) (cut .1) (parse-cut ∙ ap (parsed (cut .0 ∷ cut .1)) (stem-trail (rest p)))
+          reached-shut (k .reached) x (8 * (i + 1)) (unfold x in bits-next s i (step .more)) (withoutTrailing (rest p)) (trailingOnes (rest p)) (without-settled (rest p)) (trailing-few _ (rest p) _ parse-cut)
+          (cut .0) (cut .1) (parse-cut ∙ ap (parsed (cut .0 ∷ cut .1)) (without-trailing (rest p)))
 
-      ended-is : ended ≡ (k .stem ++ q) ++ ones 3
-      ended-is = ap (λ (w : List Bool). k .stem ++ w) (front-ones _ (cut .0) (rest p) (cut .1) parse-cut) ∙ sym (append-assoc (k .stem) q (ones 3))
+      ended-is : ended ≡ (k .body ++ q) ++ ones 3
+      ended-is = ap (λ (w : List Bool). k .body ++ w) (front-ones _ (cut .0) (rest p) (cut .1) parse-cut) ∙ sym (append-assoc (k .body) q (ones 3))
 
-      pending-ended : Pending (k .stem ++ q) (len + r .len) (val + v)
-      unfolding rowOf
+      pending-ended : Pending (k .body ++ q) (len + r .len) (val + v)
+      unfolding rowOfParse
       pending-ended = grown q (ap (λ (r : Row). r .len) row-cut) (ap (λ (r : Row). r .x) row-cut) (ap (λ (r : Row). r .y) row-cut) (ap (λ (r : Row). r .z) row-cut)
 
-      ended-near : first 3 (len + r .len) ≤ largest → number 3 ended ≡ first 3 (len + r .len) + (val + v)
+      ended-near : first 3 (len + r .len) ≤ maxNumber → number 3 ended ≡ first 3 (len + r .len) + (val + v)
       ended-near g = ap (number 3) ended-is ∙ pending-near _ _ _ pending-ended g
 
-      ended-far : largest < first 3 (len + r .len) → largest < number 3 ended
+      ended-far : maxNumber < first 3 (len + r .len) → maxNumber < number 3 ended
       ended-far g = rw ended-is (pending-far _ _ _ pending-ended g)
 
       count-is : r .count ≡ suc (length within)
-      unfolding rowOf
+      unfolding rowOfParse
       count-is = ap (λ (r : Row). r .count) row-cut ∙ ap suc (sym (length-map (cut .1) (number 3)))
 
       within-few : length within ≤ 2
       within-few = omega (arith, count-is, step .few .0)
 
       second-is : r .second ≡ getD within 0 0
-      unfolding rowOf inside
+      unfolding rowOfParse inside
       second-is = ap (λ (r : Row). r .second) row-cut
 
       third-is : r .third ≡ getD within 1 0
-      unfolding rowOf inside
+      unfolding rowOfParse inside
       third-is = ap (λ (r : Row). r .third) row-cut
 
       within-pos : Positive within
@@ -202,13 +202,13 @@ module _ {limit : ℕ} {s : List ℕ} {i : ℕ} {row : List ℕ} {count len val 
       all-numbers = let t = reached-numbers reached-next in (t .0, t .1 ∙ ap (λ (l : List ℕ). l ++ t .0) next-numbers)
 
       -- it is one too many
-      pub walked-many : longest ≤ count → contents (fibonacci 3) limit s ≡ refused TooManyCodewords
+      pub walked-many : maxCount ≤ count → contents (fibonacci 3) limit s ≡ refused TooManyCodewords
       walked-many f =
           contents-many limit 3 s done (k .legal) (number 3 ended) (within ++ all-numbers .0) (all-numbers .1 ∙ append-assoc done (number 3 ended ∷ within) (all-numbers .0))
           (omega (arith, done-long, k .most))
 
       -- n was found for its number, and of the numbers that end so many pass
-      module _ (n : ℕ) (is : Numbered 3 (len + r .len) (val + v) n) (top : limit ≤ largest) (good : ℕ) (passes : Passes (isNumber limit n) limit (r .second) (r .third) good) where
+      module _ (n : ℕ) (is : Numbered 3 (len + r .len) (val + v) n) (top : limit ≤ maxNumber) (good : ℕ) (passes : Passes (isNumber limit n) limit (r .second) (r .third) good) where
         -- n is legal where the number is
         alike : isNumber limit n ≡ isNumber limit (number 3 ended)
         alike = by (isNumber limit n) refl
@@ -233,7 +233,7 @@ module _ {limit : ℕ} {s : List ℕ} {i : ℕ} {row : List ℕ} {count len val 
           n-is : n ≡ number 3 ended
           n-is = numbered-legal 3 _ _ n is (number 3 ended) ended-near ended-far limit top (alike ∙ legal .0)
 
-          pub walked-number : n ≤ largest
+          pub walked-number : n ≤ maxNumber
           walked-number = omega (arith, number-is limit n (alike ∙ legal .0) .1)
 
           next-legal : Legal limit (done ++ (number 3 ended ∷ within))
@@ -243,7 +243,7 @@ module _ {limit : ℕ} {s : List ℕ} {i : ℕ} {row : List ℕ} {count len val 
           next-long = omega (arith, length-append done (number 3 ended ∷ within), done-long, count-is)
 
           -- those inside the byte are too many
-          pub walked-past : longest < count + r .count → contents (fibonacci 3) limit s ≡ refused TooManyCodewords
+          pub walked-past : maxCount < count + r .count → contents (fibonacci 3) limit s ≡ refused TooManyCodewords
           walked-past f = contents-past limit 3 s (done ++ (number 3 ended ∷ within)) next-legal (all-numbers .0) (all-numbers .1) (omega (arith, next-long))
 
           abbrev new : List ℕ
@@ -252,20 +252,20 @@ module _ {limit : ℕ} {s : List ℕ} {i : ℕ} {row : List ℕ} {count len val 
           pub walked-room : length (sets row count new) ≡ 4098
           walked-room = length-sets row count new ∙ k .room
 
-          kept-is : count + r .count ≤ longest → take (count + r .count) (sets row count new) ≡ done ++ (number 3 ended ∷ within)
+          kept-is : count + r .count ≤ maxCount → take (count + r .count) (sets row count new) ≡ done ++ (number 3 ended ∷ within)
           kept-is f =
               taken row new count (r .count) (omega (arith, k .room, count-is)) (step .few .0)
               ∙ ap₂ _++_ (k .stored) (ap (λ (c : ℕ). take c new) count-is
               ∙ first-three n-is second-is third-is (length within) ∙ ap (λ (l : List ℕ). number 3 ended ∷ l) (few-are within within-few))
 
-          pub walked-shut : count + r .count ≤ longest
+          pub walked-shut : count + r .count ≤ maxCount
               → Walked limit s (i + 1) (sets row count (n ∷ r .second ∷ r .third ∷ [])) (count + r .count) (r .left) (r .val) (r .next)
-          unfolding rowOf
+          unfolding rowOfParse
           walked-shut f =
               record {
                 words = k .words ++ (ended ∷ cut .1);
-                stem = stem (rest p);
-                run = trail (rest p);
+                body = withoutTrailing (rest p);
+                run = trailingOnes (rest p);
                 reached = reached-next;
                 many = sym (length-map (k .words ++ (ended ∷ cut .1)) (number 3)) ∙ ap length next-numbers ∙ next-long;
                 most = f;
@@ -273,20 +273,20 @@ module _ {limit : ℕ} {s : List ℕ} {i : ℕ} {row : List ℕ} {count len val 
                 stored = kept-is f ∙ sym next-numbers;
                 room = walked-room;
                 pending =
-                    subst (λ (l : ℕ). Pending (stem (rest p)) l (r .val)) (sym (ap (λ (r : Row). r .left) row-cut))
-                    (subst (λ (v : ℕ). Pending (stem (rest p)) (length (stem (rest p))) v) (sym (ap (λ (r : Row). r .val) row-cut))
-                    (pending-left (stem (rest p)) (omega (arith, ap (λ (r : Row). r .left) row-cut, step .few .7))));
-                held = omega (arith, step .few .7);
+                    subst (λ (l : ℕ). Pending (withoutTrailing (rest p)) l (r .val)) (sym (ap (λ (r : Row). r .left) row-cut))
+                    (subst (λ (v : ℕ). Pending (withoutTrailing (rest p)) (length (withoutTrailing (rest p))) v) (sym (ap (λ (r : Row). r .val) row-cut))
+                    (pending-left (withoutTrailing (rest p)) (omega (arith, ap (λ (r : Row). r .left) row-cut, step .few .7))));
+                clamped = omega (arith, step .few .7);
                 small = omega (arith, step .few .8);
                 at = ap (λ (r : Row). r .next) row-cut;
               }
 
   -- the bytes are all read, and the pending bits are the rest
   module _ (h : length s ≤ i) where
-    rest-is : parse 3 (unpack s) ≡ parsed (k .words) (k .stem ++ ones (k .run))
-    rest-is = reached-end 3 (unpack s) (8 * i) (k .words) (k .stem) (k .run) (omega (arith, unpack-length s)) (k .reached)
+    rest-is : parse 3 (unpack s) ≡ parsed (k .words) (k .body ++ ones (k .run))
+    rest-is = reached-end 3 (unpack s) (8 * i) (k .words) (k .body) (k .run) (omega (arith, unpack-length s)) (k .reached)
 
-    far : 8 ≤ len → 8 ≤ length (k .stem)
+    far : 8 ≤ len → 8 ≤ length (k .body)
     far l = elim (decLe 37 len) [ yes f ↦ omega (arith, k .pending .far f) | no f ↦ omega (arith, k .pending .near (omega arith) .0) ]
 
     -- there are no ones exactly where the state is 0
@@ -295,10 +295,10 @@ module _ {limit : ℕ} {s : List ℕ} {i : ℕ} {row : List ℕ} {count len val 
 
     pub walked-padding : Padding len val state ≡ true → (contents (fibonacci 3) limit s ≡ accepted done) × (take count row ≡ done) × (length done ≡ count)
     walked-padding e =
-        let t = padding-is 3 (k .stem) len val (k .run) (omega arith) (λ l. k .pending .near (omega arith)) far (sym state-none ∙ e) in
+        let t = padding-is 3 (k .body) len val (k .run) (omega arith) (λ l. k .pending .near (omega arith)) far (sym state-none ∙ e) in
         (contents-good limit 3 s done (k .legal) (k .words) _ rest-is refl (omega (arith, done-long, k .most)) (t .0) (t .1), k .stored, done-long)
 
     pub walked-rest : Padding len val state ≡ false → contents (fibonacci 3) limit s ≡ refused BadRest
     walked-rest e =
         contents-rest limit 3 s done (k .legal) (k .words) _ rest-is refl (omega (arith, done-long, k .most))
-        (padding-not 3 (k .stem) len val (k .run) (omega arith) (λ l. k .pending .near (omega arith)) far (sym state-none ∙ e))
+        (padding-not 3 (k .body) len val (k .run) (omega arith) (λ l. k .pending .near (omega arith)) far (sym state-none ∙ e))

@@ -4,10 +4,10 @@ ghost use mathlib.Core.List.{_∷_, []};
 ghost use Prim.Native.Nat.{_≤_, _<_};
 ghost use lib.ListN.{length};
 ghost use lib.Seq.{sets};
-ghost use Rattle.calls.specs.Limits.{isNumber, largest, mostBytes};
+ghost use Rattle.calls.specs.Limits.{isNumber, maxNumber, maxBytes};
 ghost use Rattle.calls.specs.Reading.{contents};
 ghost use Rattle.reading.specs.Reading.{fibonacci};
-ghost use Rattle.table_scan.specs.Answers.{Tables, Scanned, Passes, faultAt};
+ghost use Rattle.table_scan.specs.Leaves.{Tables, Scanned, Passes, faultAt};
 use calls::CountAnswer;
 use calls::Refusal;
 
@@ -16,7 +16,7 @@ pub const ROOM: usize = 4098;
 
 // Three numbers from element i on.
 fn put(row: &mut [u32; ROOM], i: usize, first: u64, second: u32, third: u32)
-    requires { ⌜ (i < 4096) × (length (now row) ≡ 4098) × (first ≤ largest) ⌝ }
+    requires { ⌜ (i < 4096) × (length (now row) ≡ 4098) × (first ≤ maxNumber) ⌝ }
     ensures { λ r. ⌜ now (row .exit) ≡ sets (now (row .entry)) i (first ∷ second ∷ third ∷ []) ⌝ }
 {
     row[i] = first as u32;
@@ -25,7 +25,7 @@ fn put(row: &mut [u32; ROOM], i: usize, first: u64, second: u32, third: u32)
 }
 
 // A pending length up to 37. No codeword with 37 bits or more before its last ones has a legal number, so how many more they are does not matter.
-fn held(len: usize) -> usize
+fn clamp_length(len: usize) -> usize
     ensures { λ r. ⌜ (len < 37 → r ≡ len) × (37 ≤ len → r ≡ 37) ⌝ }
 {
     if len < 37 { len } else { 37 }
@@ -51,7 +51,7 @@ fn passing(first: u64, second: u32, third: u32, limit: u64) -> usize
 fn fault(place: usize) -> Refusal
     ensures { λ r. ⌜ r ≡ faultAt place ⌝ }
 {
-    if place >= calls::LONGEST {
+    if place >= calls::MAX_COUNT {
         Refusal::TooManyCodewords
     } else {
         Refusal::TooLarge(place)
@@ -69,7 +69,7 @@ pub fn walk(
     limit: u64,
     row: &mut [u32; ROOM],
 ) -> CountAnswer
-    requires { ⌜ Tables (now heads) (now tails) (now positions) (now firsts) × (length (now s) ≤ mostBytes) × (limit ≤ largest) × (length (now row) ≡ 4098) ⌝ }
+    requires { ⌜ Tables (now heads) (now tails) (now positions) (now firsts) × (length (now s) ≤ maxBytes) × (limit ≤ maxNumber) × (length (now row) ≡ 4098) ⌝ }
     ensures { λ r. ⌜ Scanned (contents (fibonacci 3) limit (now (s .entry))) r (now (row .exit)) ⌝ }
 {
     let mut count: usize = 0;
@@ -82,10 +82,10 @@ pub fn walk(
         let sum = val + byte_table::moved(positions, len, r.x, r.y, r.z);
         state = r.next;
         if r.count == 0 {
-            len = held(end);
+            len = clamp_length(end);
             val = sum;
         } else {
-            if count == calls::LONGEST {
+            if count == calls::MAX_COUNT {
                 return CountAnswer::Refused(Refusal::TooManyCodewords);
             }
             let n = reading::number(firsts, 3, end, sum);
@@ -95,7 +95,7 @@ pub fn walk(
             }
             put(row, count, n, r.second, r.third);
             count += r.count;
-            if count > calls::LONGEST {
+            if count > calls::MAX_COUNT {
                 return CountAnswer::Refused(Refusal::TooManyCodewords);
             }
             len = r.left;

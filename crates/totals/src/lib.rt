@@ -14,7 +14,7 @@ pub fn total(order: usize, s: &[u8], a: usize, b: usize) -> TotalAnswer
     if !calls::is_order(order) {
         return TotalAnswer::Refused(calls::Refusal::BadOrder);
     }
-    let told = decoder::sum_span(order, s, calls::LARGEST, a, b);
+    let told = decoder::sum_span(order, s, calls::MAX_NUMBER, a, b);
     match told {
         decoder::SpanAnswer::Row(f) => {
             if a > b {
@@ -36,7 +36,7 @@ pub fn repeated_total(order: usize, s: &[u8], repeats: u64) -> TotalAnswer
     if !calls::is_order(order) {
         return TotalAnswer::Refused(calls::Refusal::BadOrder);
     }
-    let told = decoder::sum_span(order, s, calls::LARGEST, 0, 0);
+    let told = decoder::sum_span(order, s, calls::MAX_NUMBER, 0, 0);
     match told {
         decoder::SpanAnswer::Row(f) => {
             if repeats == 0 {

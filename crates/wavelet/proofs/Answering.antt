@@ -13,15 +13,15 @@ use Rattle.calls.proofs.Checks.{both, order-is, number-is, not-both, refused-sa
 use Rattle.calls.specs.declared.Refusal.{Refusal}
 use Rattle.calls.specs.declared.Refusal.the-variants.{BadOrder, TooManyNumbers, BadAlphabet, NotAnIndex}
 use Rattle.calls.specs.Calls.{Outcome, accepted, refused, check}
-use Rattle.calls.specs.Limits.{isOrder, isNumber, longest, Order}
+use Rattle.calls.specs.Limits.{isOrder, isNumber, maxCount, Order}
 use Rattle.fibonacci.specs.Code.{first}
 use Rattle.wavelet.specs.Nodes.{tree}
 use Rattle.wavelet.specs.Bitmaps.{need, isIndex}
-use Rattle.wavelet.specs.Questions.{mostAlphabet, checkTree, ask}
-use Rattle.wavelet.specs.Walk.{At, Low, ends, Ends, Path, Exact, mostIndex, Root}
+use Rattle.wavelet.specs.Questions.{maxAlphabet, checkTree, ask}
+use Rattle.wavelet.specs.Leaves.{CursorAt, Low, ends, Ends, Aligned, Exact, maxIndexBytes, Root}
 use Rattle.wavelet.specs.Answers.{Passed}
-use Rattle.wavelet.specs.declared.Spot.{Spot}
-use Rattle.wavelet.proofs.Pruned.{stands-root}
+use Rattle.wavelet.specs.declared.Cursor.{Cursor}
+use Rattle.wavelet.proofs.Pruned.{cursor-root}
 use Rattle.wavelet.proofs.Depth.{tree-need}
 
 -- ## Order, alphabet and length
@@ -39,17 +39,17 @@ module _ (m N k : ℕ) where
   pub tree-passed : {x : ℕ} → accepted x ≡ checkTree m N k (accepted N) → Passed m N k
   tree-passed {x} e =
       let o = check-passed BadOrder (not (isOrder m)) _ x (sym e) in
-      let a = check-passed BadAlphabet (not (isNumber mostAlphabet N)) _ x (o .1) in
-      let c = check-passed TooManyNumbers (ltb longest k) _ x (a .1) in
+      let a = check-passed BadAlphabet (not (isNumber maxAlphabet N)) _ x (o .1) in
+      let c = check-passed TooManyNumbers (ltb maxCount k) _ x (a .1) in
       record { order = not-false _ (o .0); alphabet = not-false _ (a .0); count = ltb-false _ _ (c .0) }
 
   -- what comes after them decides
   pub tree-legal : {A : Type 0} → Passed m N k → (next : Outcome A) → checkTree m N k next ≡ next
-  tree-legal p next = simp (p .order, p .alphabet, le-ltb longest k (p .count))
+  tree-legal p next = simp (p .order, p .alphabet, le-ltb maxCount k (p .count))
 
   -- or does not matter
   pub tree-refused : {A : Type 0} {r : Refusal} → refused r ≡ checkTree m N k (accepted N) → (next : Outcome A) → refused r ≡ checkTree m N k next
-  tree-refused {r = r} e next = refuses r (not (isOrder m)) (not (isNumber mostAlphabet N)) (ltb longest k) N next e
+  tree-refused {r = r} e next = refuses r (not (isOrder m)) (not (isNumber maxAlphabet N)) (ltb maxCount k) N next e
 
 -- ## Whether the bytes are an index
 
@@ -57,27 +57,27 @@ module _ {m N k : ℕ} (p : Passed m N k) where
   pub legal-order : Order m
   legal-order = order-is m (p .order)
 
-  pub legal-alphabet : (1 ≤ N) × (N ≤ mostAlphabet)
-  legal-alphabet = number-is mostAlphabet N (p .alphabet)
+  pub legal-alphabet : (1 ≤ N) × (N ≤ maxAlphabet)
+  legal-alphabet = number-is maxAlphabet N (p .alphabet)
 
   -- where a walk begins
-  pub at-root : {v : Spot} → Root v → At m N (m + N) [] v
-  at-root {v} e = rw (e .0, e .1, e .2, e .3) (stands-root m N (omega (arith, legal-order)) (legal-alphabet .0))
+  pub at-root : {v : Cursor} → Root v → CursorAt m N (m + N) [] v
+  at-root {v} e = rw (e .0, e .1, e .2, e .3) (cursor-root m N (omega (arith, legal-order)) (legal-alphabet .0))
 
-  pub low-root : {v : Spot} → Root v → Low m v
+  pub low-root : {v : Cursor} → Root v → Low m v
   unfolding first
   low-root {v} e = rw (e .0, e .1) (omega arith)
 
   module _ (s : List ℕ) where
     -- too many bytes
-    pub index-long : mostIndex < length s → isIndex m N k s ≡ false
+    pub index-long : maxIndexBytes < length s → isIndex m N k s ≡ false
     unfolding isIndex
     index-long h =
         let most = tree-need m N k (unpack s) legal-order (legal-alphabet .0) (legal-alphabet .1) in
         simp (ne-eqb (byteCount (need (tree m N) k (unpack s))) (length s) (λ e. omega (arith, most, p .count)))
 
     -- by where the walk's bitmaps end
-    module _ {v : Spot} (root : Root v) (end : ℕ) (walked : Ends m N v k s 0 end) where
+    module _ {v : Cursor} (root : Root v) (end : ℕ) (walked : Ends m N v k s 0 end) where
       ends-need : end ≡ min (need (tree m N) k (unpack s)) (suc (length (unpack s)))
       unfolding ends tree
       ends-need = walked (m + N) [] (at-root root) ∙ omega arith
@@ -102,5 +102,5 @@ module _ {m N k : ℕ} (p : Passed m N k) where
 -- ## The number asked for
 
 -- its codeword, by other names of the alphabet and the number
-pub asked-path : (m x : ℕ) {l N w n : ℕ} → l ≡ N → w ≡ n → (isNumber l w ≡ true → Path m w x) → isNumber N n ≡ true → Path m n x
-asked-path m x d e asked h = (rw (d, e) at asked) h
+pub target-aligned : (m x : ℕ) {l N w n : ℕ} → l ≡ N → w ≡ n → (isNumber l w ≡ true → Aligned m w x) → isNumber N n ≡ true → Aligned m n x
+target-aligned m x d e target_codeword h = (rw (d, e) at target_codeword) h

@@ -12,10 +12,10 @@ use Rattle.fibonacci.specs.Code.{first}
 use Rattle.calls.specs.Limits.{Order}
 use Rattle.wavelet.specs.Nodes.{Tree, leaf, node, prune, tree}
 use Rattle.wavelet.specs.Bitmaps.{need}
-use Rattle.wavelet.specs.Questions.{mostAlphabet}
-use Rattle.wavelet.specs.Walk.{Stands}
-use Rattle.wavelet.proofs.Pruned.{stands-root, stands-node, stands-high, stands-full}
-use Rattle.wavelet.proofs.Spots.{shallow, low-more}
+use Rattle.wavelet.specs.Questions.{maxAlphabet}
+use Rattle.wavelet.specs.Leaves.{Describes}
+use Rattle.wavelet.proofs.Pruned.{cursor-root, cursor-node, cursor-high, cursor-full}
+use Rattle.wavelet.proofs.Cursors.{shallow, low-more}
 
 -- a tree is at most h nodes deep
 abbrev Within : ℕ → Tree → Type 0
@@ -35,32 +35,32 @@ need-most (node p z o) (suc h) k b w =
     rw suc-mul (omega (arith, need-most z h y (drop k b) (w .0), need-most o h x (drop (need z y (drop k b)) (drop k b)) (w .1)))
 
 -- at a leaf nothing is left to show
-leaf-or : (h f : ℕ) {m N : ℕ} {q : List Bool} {s w r c : ℕ} → Stands m N f q s w r c → (r < m → w ≤ N → Within h (prune m N f q)) → Within h (prune m N f q)
+leaf-or : (h f : ℕ) {m N : ℕ} {q : List Bool} {s w r c : ℕ} → Describes m N f q s w r c → (r < m → w ≤ N → Within h (prune m N f q)) → Within h (prune m N f q)
 leaf-or h f {m} {N} {q} {s} {w} {r} a inner =
     elim (decLe m r) [
-      | yes full ↦ rw (stands-full a full) tt
+      | yes full ↦ rw (cursor-full a full) tt
       | no few ↦
           elim (decLe w N) [
-            | no high ↦ rw (stands-high a (omega arith)) tt
+            | no high ↦ rw (cursor-high a (omega arith)) tt
             | yes low ↦ inner (omega arith) low
           ]
     ]
 
 -- the tree after a string of s bits is at most 16 - s deep
-prune-within : (h f : ℕ) {m N : ℕ} {q : List Bool} {s w r c : ℕ} → Order m → N ≤ mostAlphabet → 16 ≤ s + h → first m (s + 1) ≤ w
-    → Stands m N f q s w r c → Within h (prune m N f q)
+prune-within : (h f : ℕ) {m N : ℕ} {q : List Bool} {s w r c : ℕ} → Order m → N ≤ maxAlphabet → 16 ≤ s + h → first m (s + 1) ≤ w
+    → Describes m N f q s w r c → Within h (prune m N f q)
 prune-within zero f {m} {s = s} o most deep low a =
     leaf-or zero f a (λ few high. absurd (omega (arith, shallow m (s + 1) o (omega arith))))
 prune-within (suc h) f {m} {s = s} {w} o most deep low a =
     leaf-or (suc h) f a (λ few high.
-    let k = stands-node a few high in
+    let k = cursor-node a few high in
     let more = low-more m s w low in
     rw (k .tree-is) (
       prune-within h (k .g) o most (omega arith) more (k .zero-side),
       prune-within h (k .g) o most (omega arith) (omega arith) (k .one-side),
     ))
 
-pub tree-need : (m N k : ℕ) (b : List Bool) → Order m → 1 ≤ N → N ≤ mostAlphabet → need (tree m N) k b ≤ 16 * k
+pub tree-need : (m N k : ℕ) (b : List Bool) → Order m → 1 ≤ N → N ≤ maxAlphabet → need (tree m N) k b ≤ 16 * k
 unfolding tree first
 tree-need m N k b o some most =
-    need-most (prune m N (m + N) []) 16 k b (prune-within 16 (m + N) o most (omega arith) (omega arith) (stands-root m N (omega arith) some))
+    need-most (prune m N (m + N) []) 16 k b (prune-within 16 (m + N) o most (omega arith) (omega arith) (cursor-root m N (omega arith) some))

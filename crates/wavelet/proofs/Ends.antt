@@ -6,13 +6,13 @@ use Prim.Native.Nat.{ℕ, suc, _+_, _-_, _*_, _/_, _%_, _≤_, _<_}
 use native.Mathlib.Omega.{arith}
 use lib.ListN.{length, take, drop, length-take, length-drop}
 use lib.Seq.{drop-drop}
+use Rattle.lists.proofs.Lists.{take-inner}
 use Rattle.bits.specs.Bits.{unpack, count}
 use Rattle.bits.proofs.Count.{count-both}
-use Rattle.bits.proofs.Lists.{take-inner}
 use Rattle.bits.proofs.Bytes.{unpack-drop, unpack-take}
 use Rattle.wavelet.specs.Nodes.{Tree, leaf, node}
 use Rattle.wavelet.specs.Bitmaps.{need}
-use Rattle.wavelet.specs.Walk.{ends}
+use Rattle.wavelet.specs.Leaves.{ends}
 use Rattle.wavelet.proofs.Trees.{need-none}
 
 -- k bits from bit `at` on, in the bytes that hold them

@@ -10,7 +10,7 @@ use lib.Seq.{take-all}
 use borrow.Author.Tests.{eq-eqb, ne-eqb}
 use Rattle.bits.specs.Bits.{unpack, byteCount, count}
 use Rattle.bits.proofs.Bytes.{unpack-length}
-use Rattle.wavelet.specs.Walk.{Exact}
+use Rattle.wavelet.specs.Leaves.{Exact}
 
 module _ (s : List ℕ) (end : ℕ) where
   pub exact-past : length s * 8 < end → Exact s end false

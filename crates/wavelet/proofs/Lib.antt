@@ -1,13 +1,11 @@
 pub mod Strings
-pub mod Those
 pub mod Pruned
 pub mod Merging
 pub mod Trees
 pub mod Nodes
-pub mod Held
-pub mod Demand
-pub mod Spots
-pub mod Paths
+pub mod Rows
+pub mod Cursors
+pub mod Aligned
 pub mod Ends
 pub mod Walking
 pub mod Exact

@@ -10,10 +10,10 @@ use lib.Dec.{eqb}
 use lib.ListN.{length, getD, take, drop, replicate, length-map, length-replicate}
 use lib.Seq.{getD-drop}
 use borrow.Author.Tests.{eq-eqb}
-use Rattle.bits.specs.Bits.{worth, is, count, place}
+use Rattle.lists.specs.Lists.{All}
+use Rattle.bits.specs.Bits.{bitValue, sameBit, count, selectBit}
 use Rattle.bits.proofs.Count.{count-le}
-use Rattle.bits.proofs.Place.{place-none}
-use Rattle.calls.specs.Limits.{All}
+use Rattle.bits.proofs.Select.{select-none}
 use Rattle.wavelet.specs.Bitmaps.{merge}
 use Rattle.wavelet.specs.Questions.{uses, rankIn}
 
@@ -24,10 +24,10 @@ pub count-before : (v : Bool) (b : List Bool) (i : ℕ) → i < length b → get
 unfolding count
 count-before v [] i h e = absurd (omega arith)
 count-before v (a ∷ b) zero h e =
-    let w : worth (is v a) ≡ 1 = ap (λ (x : Bool). worth (is v x)) e ∙ self v in
+    let w : bitValue (sameBit v a) ≡ 1 = ap (λ (x : Bool). bitValue (sameBit v x)) e ∙ self v in
     omega arith
   where
-    self : (v : Bool) → worth (is v v) ≡ 1
+    self : (v : Bool) → bitValue (sameBit v v) ≡ 1
     self false = refl
     self true = refl
 count-before v (a ∷ b) (suc i) h e = omega (arith, count-before v b i (omega arith) e)
@@ -35,18 +35,18 @@ count-before v (a ∷ b) (suc i) h e = omega (arith, count-before v b i (omega a
 -- ## Places
 
 -- a bit of the other kind is passed over
-place-other : (v a : Bool) (j : ℕ) (b : List Bool) → is v a ≡ false → place v j (a ∷ b) ≡ suc (place v j b)
-unfolding place
-place-other v a zero b e = rw (e, place)
-place-other v a (suc j) b e = rw (e, place)
+select-other : (v a : Bool) (j : ℕ) (b : List Bool) → sameBit v a ≡ false → selectBit v j (a ∷ b) ≡ suc (selectBit v j b)
+unfolding selectBit
+select-other v a zero b e = rw (e, selectBit)
+select-other v a (suc j) b e = rw (e, selectBit)
 
-place-here : (v a : Bool) (b : List Bool) → is v a ≡ true → place v 0 (a ∷ b) ≡ 0
-unfolding place
-place-here v a b e = rw (e, place)
+select-here : (v a : Bool) (b : List Bool) → sameBit v a ≡ true → selectBit v 0 (a ∷ b) ≡ 0
+unfolding selectBit
+select-here v a b e = rw (e, selectBit)
 
-place-next : (v a : Bool) (j : ℕ) (b : List Bool) → is v a ≡ true → place v (suc j) (a ∷ b) ≡ suc (place v j b)
-unfolding place
-place-next v a j b e = rw (e, place)
+select-next : (v a : Bool) (j : ℕ) (b : List Bool) → sameBit v a ≡ true → selectBit v (suc j) (a ∷ b) ≡ suc (selectBit v j b)
+unfolding selectBit
+select-next v a j b e = rw (e, selectBit)
 
 pub merge-length : (b : List Bool) (z o : List ℕ) → length (merge b z o) ≡ length b
 unfolding merge
@@ -66,12 +66,12 @@ merge-at (false ∷ b) z o zero h = refl
 merge-at (true ∷ b) z o zero h = refl
 merge-at (false ∷ b) z o (suc i) h = merge-at b (drop 1 z) o i (omega arith) ∙ go (getD b i false) (count (getD b i false) (take i b))
   where
-    go : (v : Bool) (c : ℕ) → getD (side v (drop 1 z) o) c 0 ≡ getD (side v z o) (worth (is v false) + c) 0
+    go : (v : Bool) (c : ℕ) → getD (side v (drop 1 z) o) c 0 ≡ getD (side v z o) (bitValue (sameBit v false) + c) 0
     go false c = getD-drop 1 z c 0
     go true c = rw (zero-add c)
 merge-at (true ∷ b) z o (suc i) h = merge-at b z (drop 1 o) i (omega arith) ∙ go (getD b i false) (count (getD b i false) (take i b))
   where
-    go : (v : Bool) (c : ℕ) → getD (side v z (drop 1 o)) c 0 ≡ getD (side v z o) (worth (is v true) + c) 0
+    go : (v : Bool) (c : ℕ) → getD (side v z (drop 1 o)) c 0 ≡ getD (side v z o) (bitValue (sameBit v true) + c) 0
     go false c = rw (zero-add c)
     go true c = getD-drop 1 o c 0
 
@@ -126,34 +126,34 @@ module _ (b : List Bool) (z o : List ℕ) (hz : length z ≡ count false b) (ho 
 -- ## Select
 
 -- u is the side v of w by the bits b, as far as places go; so it is with one bit more in front of all three
-select-step : (v e : Bool) (b u w : List Bool) → is v v ≡ true → ((j : ℕ) → place true j w ≡ place v (place true j u) b)
-    → (j : ℕ) → place true j (e ∷ w) ≡ place v (place true j (e ∷ u)) (v ∷ b)
+select-step : (v e : Bool) (b u w : List Bool) → sameBit v v ≡ true → ((j : ℕ) → selectBit true j w ≡ selectBit v (selectBit true j u) b)
+    → (j : ℕ) → selectBit true j (e ∷ w) ≡ selectBit v (selectBit true j (e ∷ u)) (v ∷ b)
 select-step v false b u w s ih j =
-    rw (place-other true false j w refl, place-other true false j u refl, place-next v v (place true j u) b s) (ap suc (ih j))
-select-step v true b u w s ih zero = rw (place-here true true w refl, place-here true true u refl, place-here v v b s)
+    rw (select-other true false j w refl, select-other true false j u refl, select-next v v (selectBit true j u) b s) (ap suc (ih j))
+select-step v true b u w s ih zero = rw (select-here true true w refl, select-here true true u refl, select-here v v b s)
 select-step v true b u w s ih (suc j) =
-    rw (place-next true true j w refl, place-next true true j u refl, place-next v v (place true j u) b s) (ap suc (ih j))
+    rw (select-next true true j w refl, select-next true true j u refl, select-next v v (selectBit true j u) b s) (ap suc (ih j))
 
 pub select-merge-one : (b : List Bool) (z o : List ℕ) → length z ≡ count false b → length o ≡ count true b → (n : ℕ) → Without n z
-    → (j : ℕ) → place true j (uses n (merge b z o)) ≡ place true (place true j (uses n o)) b
+    → (j : ℕ) → selectBit true j (uses n (merge b z o)) ≡ selectBit true (selectBit true j (uses n o)) b
 unfolding merge count
-select-merge-one [] z o hz ho n a j = unfold place in refl
+select-merge-one [] z o hz ho n a j = unfold selectBit in refl
 select-merge-one (false ∷ b) [] o hz ho n a j = absurd (omega arith)
 select-merge-one (false ∷ b) (x ∷ z) o hz ho n a j =
-    place-other true (eqb n x) j (uses n (merge b z o)) (a .0) ∙ ap suc (select-merge-one b z o (omega arith) (omega arith) n (a .1) j)
-    ∙ sym (place-other true false (place true j (uses n o)) b refl)
+    select-other true (eqb n x) j (uses n (merge b z o)) (a .0) ∙ ap suc (select-merge-one b z o (omega arith) (omega arith) n (a .1) j)
+    ∙ sym (select-other true false (selectBit true j (uses n o)) b refl)
 select-merge-one (true ∷ b) z [] hz ho n a j = absurd (omega arith)
 select-merge-one (true ∷ b) z (x ∷ o) hz ho n a j =
     select-step true (eqb n x) b (uses n o) (uses n (merge b z o)) refl (select-merge-one b z o (omega arith) (omega arith) n a) j
 
 pub select-merge-zero : (b : List Bool) (z o : List ℕ) → length z ≡ count false b → length o ≡ count true b → (n : ℕ) → Without n o
-    → (j : ℕ) → place true j (uses n (merge b z o)) ≡ place false (place true j (uses n z)) b
+    → (j : ℕ) → selectBit true j (uses n (merge b z o)) ≡ selectBit false (selectBit true j (uses n z)) b
 unfolding merge count
-select-merge-zero [] z o hz ho n a j = unfold place in refl
+select-merge-zero [] z o hz ho n a j = unfold selectBit in refl
 select-merge-zero (true ∷ b) z [] hz ho n a j = absurd (omega arith)
 select-merge-zero (true ∷ b) z (x ∷ o) hz ho n a j =
-    place-other true (eqb n x) j (uses n (merge b z o)) (a .0) ∙ ap suc (select-merge-zero b z o (omega arith) (omega arith) n (a .1) j)
-    ∙ sym (place-other false true (place true j (uses n z)) b refl)
+    select-other true (eqb n x) j (uses n (merge b z o)) (a .0) ∙ ap suc (select-merge-zero b z o (omega arith) (omega arith) n (a .1) j)
+    ∙ sym (select-other false true (selectBit true j (uses n z)) b refl)
 select-merge-zero (false ∷ b) [] o hz ho n a j = absurd (omega arith)
 select-merge-zero (false ∷ b) (x ∷ z) o hz ho n a j =
     select-step false (eqb n x) b (uses n z) (uses n (merge b z o)) refl (select-merge-zero b z o (omega arith) (omega arith) n a) j
@@ -170,15 +170,15 @@ rank-same k n zero h = refl
 rank-same zero n (suc i) h = absurd (omega arith)
 rank-same (suc k) n (suc i) h = rw (eq-eqb n n refl) (omega (arith, rank-same k n i (omega arith)))
 
-pub select-same : (k n j : ℕ) → j < k → place true j (uses n (replicate k n)) ≡ j
-select-same k n j h = ap (place true j) (uses-same k n) ∙ go k j h
+pub select-same : (k n j : ℕ) → j < k → selectBit true j (uses n (replicate k n)) ≡ j
+select-same k n j h = ap (selectBit true j) (uses-same k n) ∙ go k j h
   where
-    go : (k j : ℕ) → j < k → place true j (replicate k true) ≡ j
+    go : (k j : ℕ) → j < k → selectBit true j (replicate k true) ≡ j
     go zero j h = absurd (omega arith)
-    go (suc k) zero h = place-here true true (replicate k true) refl
-    go (suc k) (suc j) h = place-next true true j (replicate k true) refl ∙ ap suc (go k j (omega arith))
+    go (suc k) zero h = select-here true true (replicate k true) refl
+    go (suc k) (suc j) h = select-next true true j (replicate k true) refl ∙ ap suc (go k j (omega arith))
 
-pub select-same-none : (k n j : ℕ) → k ≤ j → place true j (uses n (replicate k n)) ≡ k
+pub select-same-none : (k n j : ℕ) → k ≤ j → selectBit true j (uses n (replicate k n)) ≡ k
 select-same-none k n j h =
     let e : length (uses n (replicate k n)) ≡ k = length-map (replicate k n) (eqb n) ∙ length-replicate k n in
-    place-none true j (uses n (replicate k n)) (omega (arith, count-le true (uses n (replicate k n)))) ∙ e
+    select-none true j (uses n (replicate k n)) (omega (arith, count-le true (uses n (replicate k n)))) ∙ e

@@ -8,37 +8,36 @@ use native.Mathlib.Omega.{arith}
 use native.Mathlib.Decide.{decLe}
 use lib.ListN.{length, getD, take, drop, length-append, replicate-append-replicate, List·getD-append}
 use lib.Seq.{take-at}
-use Rattle.bits.specs.Bits.{is, worth}
-use Rattle.fibonacci.specs.Code.{valuesFrom, ones, runs, Codeword, value, number, codeword}
+use Rattle.lists.specs.Lists.{valuesFrom, All, filter}
+use Rattle.bits.specs.Bits.{sameBit, bitValue}
+use Rattle.fibonacci.specs.Code.{ones, runs, Codeword, value, number, codeword}
 use Rattle.calls.proofs.Checks.{both}
-use Rattle.calls.specs.Limits.{All}
 use Rattle.fibonacci.proofs.Runs.{few-ones, runs-cut}
 use Rattle.fibonacci.proofs.Numbers.{first-rises, first-pos, value-append, number-one, form-codeword, codeword-good}
-use Rattle.wavelet.specs.Nodes.{those, begins, goesOn, isNode, Tree, leaf, node, prune, tree, nodes}
-use Rattle.wavelet.specs.Demand.{In, Once}
-use Rattle.wavelet.specs.Walk.{Stands}
+use Rattle.wavelet.specs.Nodes.{In, Once, isPrefix, beginsSome, isNode, Tree, leaf, node, prune, tree, nodes}
+use Rattle.wavelet.specs.Leaves.{Describes}
 use Rattle.wavelet.proofs.Strings.{begins-rest, begins-append, begins-bit, begins-next, begins-front, begins-one}
 use Rattle.wavelet.proofs.Trees.{Under, Has, has-begins, nodes-begin}
 use Rattle.wavelet.proofs.Pruned.{goes-some, goes-on, goes-codeword, runs-before, next-number, next-least}
-use Rattle.wavelet.proofs.Pruned.{stands-root, stands-node, stands-number, stands-high, stands-full, high-only, full-only, stands-longer}
+use Rattle.wavelet.proofs.Pruned.{cursor-root, cursor-node, cursor-number, cursor-high, cursor-full, high-only, full-only, cursor-longer}
 
 -- ## How many of the numbers j, j + 1, .. , N of them, pass a test
 
 abbrev passing : (ℕ → Bool) → ℕ → ℕ → ℕ
-passing t j N = length (those t (valuesFrom (λ n. n) j N))
+passing t j N = length (filter t (valuesFrom (λ n. n) j N))
 
-passing-step : (t : ℕ → Bool) (j N : ℕ) → passing t j (suc N) ≡ worth (t j) + passing t (suc j) N
-unfolding those
+passing-step : (t : ℕ → Bool) (j N : ℕ) → passing t j (suc N) ≡ bitValue (t j) + passing t (suc j) N
+unfolding filter
 passing-step t j N = go (t j) refl
   where
-    go : (v : Bool) → t j ≡ v → passing t j (suc N) ≡ worth v + passing t (suc j) N
-    go true e = rw (e, those) (omega arith)
-    go false e = rw (e, those) (omega arith)
+    go : (v : Bool) → t j ≡ v → passing t j (suc N) ≡ bitValue v + passing t (suc j) N
+    go true e = rw (e, filter) (omega arith)
+    go false e = rw (e, filter) (omega arith)
 
 -- what passes a test passes just one of two others
-passing-split : (t u v : ℕ → Bool) (j N : ℕ) → ((n : ℕ) → j ≤ n → n < j + N → worth (t n) ≡ worth (u n) + worth (v n))
+passing-split : (t u v : ℕ → Bool) (j N : ℕ) → ((n : ℕ) → j ≤ n → n < j + N → bitValue (t n) ≡ bitValue (u n) + bitValue (v n))
     → passing t j N ≡ passing u j N + passing v j N
-unfolding those
+unfolding filter
 passing-split t u v j zero f = refl
 passing-split t u v j (suc N) f =
     omega (
@@ -52,18 +51,18 @@ passing-split t u v j (suc N) f =
 
 -- all of them, none, or one
 passing-all : (t : ℕ → Bool) (j N : ℕ) → ((n : ℕ) → t n ≡ true) → passing t j N ≡ N
-unfolding those
+unfolding filter
 passing-all t j zero f = refl
-passing-all t j (suc N) f = omega (arith, passing-step t j N, ap worth (f j), passing-all t (suc j) N f)
+passing-all t j (suc N) f = omega (arith, passing-step t j N, ap bitValue (f j), passing-all t (suc j) N f)
 
 passing-none : (t : ℕ → Bool) (j N : ℕ) → ((n : ℕ) → j ≤ n → n < j + N → t n ≡ true → ⊥) → passing t j N ≡ 0
-unfolding those
+unfolding filter
 passing-none t j zero f = refl
 passing-none t j (suc N) f = go (t j) refl (passing-none t (suc j) N (λ n a b. f n (omega arith) (omega arith)))
   where
     go : (v : Bool) → t j ≡ v → passing t (suc j) N ≡ 0 → passing t j (suc N) ≡ 0
     go true e ih = absurd (f j (omega arith) (omega arith) e)
-    go false e ih = omega (arith, passing-step t j N, ap worth e)
+    go false e ih = omega (arith, passing-step t j N, ap bitValue e)
 
 passing-one : (t : ℕ → Bool) (j N c : ℕ) → j ≤ c → c < j + N → t c ≡ true → ((n : ℕ) → j ≤ n → n < j + N → t n ≡ true → n ≡ c) → passing t j N ≡ 1
 passing-one t j zero c a b e f = absurd (omega arith)
@@ -73,26 +72,26 @@ passing-one t j (suc N) c a b e f = go (t j) refl (λ l. passing-one t (suc j) N
     go true d ih =
         let none : passing t (suc j) N ≡ 0 =
         passing-none t (suc j) N (λ n x y z. omega (arith, f n (omega arith) (omega arith) z, f j (omega arith) (omega arith) d)) in
-        omega (arith, passing-step t j N, ap worth d)
+        omega (arith, passing-step t j N, ap bitValue d)
     go false d ih =
         elim (decLe c j) [
           | yes l ↦ let s : c ≡ j = omega arith in absurd (true≢false (sym e ∙ ap t s ∙ d))
-          | no l ↦ omega (arith, passing-step t j N, ap worth d, ih (omega arith))
+          | no l ↦ omega (arith, passing-step t j N, ap bitValue d, ih (omega arith))
         ]
 
 -- a string that goes on goes on with one bit
-begins-split : (q b : List Bool) → (begins q b ≡ true → length q < length b)
-    → worth (begins q b) ≡ worth (begins (q ++ (false ∷ [])) b) + worth (begins (q ++ (true ∷ [])) b)
-unfolding begins
+begins-split : (q b : List Bool) → (isPrefix q b ≡ true → length q < length b)
+    → bitValue (isPrefix q b) ≡ bitValue (isPrefix (q ++ (false ∷ [])) b) + bitValue (isPrefix (q ++ (true ∷ [])) b)
+unfolding isPrefix
 begins-split [] [] f = absurd (omega (arith, f refl))
 begins-split [] (false ∷ b) f = refl
 begins-split [] (true ∷ b) f = refl
 begins-split (a ∷ q) [] f = refl
-begins-split (a ∷ q) (c ∷ b) f = go (is a c) f (begins-split q b)
+begins-split (a ∷ q) (c ∷ b) f = go (sameBit a c) f (begins-split q b)
   where
-    go : (v : Bool) → ((v && begins q b) ≡ true → suc (length q) < suc (length b))
-        → ((begins q b ≡ true → length q < length b) → worth (begins q b) ≡ worth (begins (q ++ (false ∷ [])) b) + worth (begins (q ++ (true ∷ [])) b))
-        → worth (v && begins q b) ≡ worth (v && begins (q ++ (false ∷ [])) b) + worth (v && begins (q ++ (true ∷ [])) b)
+    go : (v : Bool) → ((v && isPrefix q b) ≡ true → suc (length q) < suc (length b))
+        → ((isPrefix q b ≡ true → length q < length b) → bitValue (isPrefix q b) ≡ bitValue (isPrefix (q ++ (false ∷ [])) b) + bitValue (isPrefix (q ++ (true ∷ [])) b))
+        → bitValue (v && isPrefix q b) ≡ bitValue (v && isPrefix (q ++ (false ∷ [])) b) + bitValue (v && isPrefix (q ++ (true ∷ [])) b)
     go true f ih = ih (λ e. omega (arith, f e))
     go false f ih = refl
 
@@ -101,22 +100,22 @@ begins-split (a ∷ q) (c ∷ b) f = go (is a c) f (begins-split q b)
 -- the tree after q: all its strings begin with q, its numbers are those of 1 .. N whose codewords do, and its nodes are one fewer
 record Grown (m N : ℕ) (q : List Bool) (t : Tree) : Type 0 where
   under : Under m q t
-  has : (n : ℕ) → 1 ≤ n → n ≤ N → begins q (codeword m n) ≡ true → Has t n
+  has : (n : ℕ) → 1 ≤ n → n ≤ N → isPrefix q (codeword m n) ≡ true → Has t n
   only : (n : ℕ) → Has t n → n ≤ N
-  counted : suc (length (nodes t)) ≡ passing (λ n. begins q (codeword m n)) 1 N
+  counted : suc (length (nodes t)) ≡ passing (λ n. isPrefix q (codeword m n)) 1 N
 
-grown-leaf : (m N : ℕ) (q : List Bool) (c : ℕ) → 1 ≤ c → c ≤ N → begins q (codeword m c) ≡ true
-    → ((n : ℕ) → 1 ≤ n → n ≤ N → begins q (codeword m n) ≡ true → n ≡ c) → Grown m N q (leaf c)
+grown-leaf : (m N : ℕ) (q : List Bool) (c : ℕ) → 1 ≤ c → c ≤ N → isPrefix q (codeword m c) ≡ true
+    → ((n : ℕ) → 1 ≤ n → n ≤ N → isPrefix q (codeword m n) ≡ true → n ≡ c) → Grown m N q (leaf c)
 unfolding nodes
 grown-leaf m N q c a b e f =
     record {
       under = (a, e);
       has = f;
       only = λ n i. omega arith;
-      counted = sym (passing-one (λ n. begins q (codeword m n)) 1 N c a (omega arith) e (λ n x y. f n x (omega arith)));
+      counted = sym (passing-one (λ n. isPrefix q (codeword m n)) 1 N c a (omega arith) e (λ n x y. f n x (omega arith)));
     }
 
-grown-node : (m N : ℕ) (q : List Bool) (z o : Tree) → ((n : ℕ) → 1 ≤ n → begins q (codeword m n) ≡ true → length q < length (codeword m n))
+grown-node : (m N : ℕ) (q : List Bool) (z o : Tree) → ((n : ℕ) → 1 ≤ n → isPrefix q (codeword m n) ≡ true → length q < length (codeword m n))
     → Grown m N (q ++ (false ∷ [])) z → Grown m N (q ++ (true ∷ [])) o → Grown m N q (node q z o)
 unfolding nodes
 grown-node m N q z o longer gz go =
@@ -129,46 +128,46 @@ grown-node m N q z o longer gz go =
         length-append (nodes z) (nodes o),
         gz .counted,
         go .counted,
-        passing-split (λ n. begins q (codeword m n)) (λ n. begins (q ++ (false ∷ [])) (codeword m n)) (λ n. begins (q ++ (true ∷ [])) (codeword m n)) 1 N
+        passing-split (λ n. isPrefix q (codeword m n)) (λ n. isPrefix (q ++ (false ∷ [])) (codeword m n)) (λ n. isPrefix (q ++ (true ∷ [])) (codeword m n)) 1 N
             (λ n a b. begins-split q (codeword m n) (longer n a)),
       );
     }
   where
-    side : (n : ℕ) → 1 ≤ n → n ≤ N → begins q (codeword m n) ≡ true → (v : Bool) → getD (codeword m n) (length q) false ≡ v → Has z n ⊎ Has o n
+    side : (n : ℕ) → 1 ≤ n → n ≤ N → isPrefix q (codeword m n) ≡ true → (v : Bool) → getD (codeword m n) (length q) false ≡ v → Has z n ⊎ Has o n
     side n a b e false d = inl (gz .has n a b (begins-next q (codeword m n) false e (longer n a e) d))
     side n a b e true d = inr (go .has n a b (begins-next q (codeword m n) true e (longer n a e) d))
 
 -- d is more than the bits that are left
-grown : (d : ℕ) {m N f : ℕ} {q : List Bool} {s w r c : ℕ} → f < d → Stands m N f q s w r c → Grown m N q (prune m N f q)
+grown : (d : ℕ) {m N f : ℕ} {q : List Bool} {s w r c : ℕ} → f < d → Describes m N f q s w r c → Grown m N q (prune m N f q)
 grown zero b a = absurd (omega arith)
 grown (suc d) {m} {N} {f} {q} {s} {w} {r} {c} b a =
     elim (decLe m r) [
-      | yes full ↦ rw (stands-full a full) (ends (λ n i l e. full-only a full n i e))
+      | yes full ↦ rw (cursor-full a full) (ends (λ n i l e. full-only a full n i e))
       | no low ↦
           elim (decLe w N) [
             | yes h ↦
-                let k = stands-node a (omega arith) h in
+                let k = cursor-node a (omega arith) h in
                 let less : k .g < d = omega (arith, k .fuel-is) in
-                rw (k .tree-is) (grown-node m N q _ _ (stands-longer a (omega arith)) (grown d less (k .zero-side)) (grown d less (k .one-side)))
-            | no h ↦ rw (stands-high a (omega arith)) (ends (high-only a (omega arith)))
+                rw (k .tree-is) (grown-node m N q _ _ (cursor-longer a (omega arith)) (grown d less (k .zero-side)) (grown d less (k .one-side)))
+            | no h ↦ rw (cursor-high a (omega arith)) (ends (high-only a (omega arith)))
           ]
     ]
   where
-    ends : ((n : ℕ) → 1 ≤ n → n ≤ N → begins q (codeword m n) ≡ true → n ≡ c) → Grown m N q (leaf c)
-    ends only = let x = stands-number a in grown-leaf m N q c (x .0) (a .small) (x .1) only
+    ends : ((n : ℕ) → 1 ≤ n → n ≤ N → isPrefix q (codeword m n) ≡ true → n ≡ c) → Grown m N q (leaf c)
+    ends only = let x = cursor-number a in grown-leaf m N q c (x .0) (a .small) (x .1) only
 
-pub stands-under : {m N f : ℕ} {q : List Bool} {s w r c : ℕ} → Stands m N f q s w r c → Under m q (prune m N f q)
-stands-under {f = f} a = grown (suc f) (omega arith) a .under
+pub cursor-under : {m N f : ℕ} {q : List Bool} {s w r c : ℕ} → Describes m N f q s w r c → Under m q (prune m N f q)
+cursor-under {f = f} a = grown (suc f) (omega arith) a .under
 
 tree-grown : (m N : ℕ) → 1 ≤ m → 1 ≤ N → Grown m N [] (tree m N)
 unfolding tree
-tree-grown m N p h = grown (suc (m + N)) (omega arith) (stands-root m N p h)
+tree-grown m N p h = grown (suc (m + N)) (omega arith) (cursor-root m N p h)
 
 pub tree-under : (m N : ℕ) → 1 ≤ m → 1 ≤ N → Under m [] (tree m N)
 tree-under m N p h = tree-grown m N p h .under
 
 pub tree-has : (m N : ℕ) → 1 ≤ m → 1 ≤ N → (n : ℕ) → 1 ≤ n → n ≤ N → Has (tree m N) n
-unfolding begins
+unfolding isPrefix
 tree-has m N p h n a b = tree-grown m N p h .has n a b refl
 
 pub tree-only : (m N : ℕ) → 1 ≤ m → 1 ≤ N → (n : ℕ) → Has (tree m N) n → (1 ≤ n) × (n ≤ N)
@@ -179,8 +178,8 @@ tree-only m N p h n e =
 -- ## How many nodes there are
 
 pub node-count : (m N : ℕ) → 1 ≤ m → 1 ≤ N → suc (length (nodes (tree m N))) ≡ N
-unfolding begins
-node-count m N p h = tree-grown m N p h .counted ∙ passing-all (λ n. begins [] (codeword m n)) 1 N (λ n. refl)
+unfolding isPrefix
+node-count m N p h = tree-grown m N p h .counted ∙ passing-all (λ n. isPrefix [] (codeword m n)) 1 N (λ n. refl)
 
 -- ## Which they are
 
@@ -210,11 +209,11 @@ in-none : (p : List Bool) → In p [] → ⊥
 in-none p ([], b, e) = let z : _≡_ {A = ℕ} 0 1 = cc in omega arith
 in-none p (y ∷ a, b, e) = let z : _≡_ {A = ℕ} 0 1 = cc in omega arith
 
-node-both : (m N : ℕ) (p : List Bool) → isNode m N p ≡ true → (goesOn m N (p ++ (false ∷ [])) ≡ true) × (goesOn m N (p ++ (true ∷ [])) ≡ true)
+node-both : (m N : ℕ) (p : List Bool) → isNode m N p ≡ true → (beginsSome m N (p ++ (false ∷ [])) ≡ true) × (beginsSome m N (p ++ (true ∷ [])) ≡ true)
 unfolding isNode
-node-both m N p e = both (goesOn m N (p ++ (false ∷ []))) (goesOn m N (p ++ (true ∷ []))) e
+node-both m N p e = both (beginsSome m N (p ++ (false ∷ []))) (beginsSome m N (p ++ (true ∷ []))) e
 
-both-node : (m N : ℕ) (p : List Bool) → goesOn m N (p ++ (false ∷ [])) ≡ true → goesOn m N (p ++ (true ∷ [])) ≡ true → isNode m N p ≡ true
+both-node : (m N : ℕ) (p : List Bool) → beginsSome m N (p ++ (false ∷ [])) ≡ true → beginsSome m N (p ++ (true ∷ [])) ≡ true → isNode m N p ≡ true
 unfolding isNode
 both-node m N p e f = rw (e, f)
 
@@ -223,7 +222,7 @@ some-number : (t : Tree) → (n : ℕ) × Has t n
 some-number (leaf x) = (x, refl)
 some-number (node p z o) = let n = some-number z in (n .0, inl (n .1))
 
-under-goes : (m N : ℕ) (q : List Bool) (t : Tree) → Under m q t → ((n : ℕ) → Has t n → n ≤ N) → goesOn m N q ≡ true
+under-goes : (m N : ℕ) (q : List Bool) (t : Tree) → Under m q t → ((n : ℕ) → Has t n → n ≤ N) → beginsSome m N q ≡ true
 under-goes m N q t u only =
     let n = some-number t in
     let k = has-begins m q t (n .0) u (n .1) in
@@ -245,17 +244,17 @@ listed-node m N q (node x z o) u only p i =
     (in-cons p x (nodes z ++ nodes o) i)
 
 -- two strings part in one place only
-begins-at : (x a : List Bool) (i : ℕ) → begins x a ≡ true → i < length x → getD a i false ≡ getD x i false
+begins-at : (x a : List Bool) (i : ℕ) → isPrefix x a ≡ true → i < length x → getD a i false ≡ getD x i false
 begins-at x a i e h =
     ap (λ (l : List Bool). getD l i false) (sym (begins-rest x a e)) ∙ List·getD-append x (drop (length x) a) false i h
 
-begins-same : (p x a : List Bool) → begins p a ≡ true → begins x a ≡ true → length p ≡ length x → p ≡ x
+begins-same : (p x a : List Bool) → isPrefix p a ≡ true → isPrefix x a ≡ true → length p ≡ length x → p ≡ x
 begins-same p x a e f l =
     sym (take-at p (drop (length p) a) (length p) refl) ∙ ap (take (length p)) (begins-rest p a e ∙ sym (begins-rest x a f))
     ∙ take-at x (drop (length x) a) (length p) (sym l)
 
-part-below : (p x a b : List Bool) (u v : Bool) → (u ≡ v → ⊥) → begins (p ++ (u ∷ [])) a ≡ true → begins (p ++ (v ∷ [])) b ≡ true
-    → begins x a ≡ true → begins x b ≡ true → length x ≤ length p
+part-below : (p x a b : List Bool) (u v : Bool) → (u ≡ v → ⊥) → isPrefix (p ++ (u ∷ [])) a ≡ true → isPrefix (p ++ (v ∷ [])) b ≡ true
+    → isPrefix x a ≡ true → isPrefix x b ≡ true → length x ≤ length p
 part-below p x a b u v n ea eb fa fb =
     elim (decLe (length x) (length p)) [
       | yes l ↦ l
@@ -264,8 +263,8 @@ part-below p x a b u v n ea eb fa fb =
           absurd (n (sym (begins-bit p a u ea) ∙ begins-at x a (length p) fa h ∙ sym (begins-at x b (length p) fb h) ∙ begins-bit p b v eb))
     ]
 
-part-once : (p x a b : List Bool) (u v c d : Bool) → (u ≡ v → ⊥) → (c ≡ d → ⊥) → begins (p ++ (u ∷ [])) a ≡ true → begins (p ++ (v ∷ [])) b ≡ true
-    → begins (x ++ (c ∷ [])) a ≡ true → begins (x ++ (d ∷ [])) b ≡ true → p ≡ x
+part-once : (p x a b : List Bool) (u v c d : Bool) → (u ≡ v → ⊥) → (c ≡ d → ⊥) → isPrefix (p ++ (u ∷ [])) a ≡ true → isPrefix (p ++ (v ∷ [])) b ≡ true
+    → isPrefix (x ++ (c ∷ [])) a ≡ true → isPrefix (x ++ (d ∷ [])) b ≡ true → p ≡ x
 part-once p x a b u v c d n k ea eb fa fb =
     let pa = begins-front p a u ea in
     let xa = begins-front x a c fa in
@@ -275,7 +274,7 @@ part-once p x a b u v c d n k ea eb fa fb =
 
 -- where the codewords of two of a tree's numbers part, there is a node
 node-listed : (m : ℕ) (q : List Bool) (t : Tree) → Under m q t → (p : List Bool) (a b : ℕ) → Has t a → Has t b
-    → begins (p ++ (false ∷ [])) (codeword m a) ≡ true → begins (p ++ (true ∷ [])) (codeword m b) ≡ true → In p (nodes t)
+    → isPrefix (p ++ (false ∷ [])) (codeword m a) ≡ true → isPrefix (p ++ (true ∷ [])) (codeword m b) ≡ true → In p (nodes t)
 unfolding nodes
 node-listed m q (leaf x) u p a b i j e f =
     let same : codeword m b ≡ codeword m a = ap (codeword m) (j ∙ sym i) in
@@ -321,7 +320,7 @@ ending (a ∷ p) = let x = ending p in go a (x .0) (x .1)
 
 -- fewer than m ones may become m
 ones-go : (m N : ℕ) (x : List Bool) (r : ℕ) → 1 ≤ m → r < m → Codeword m (x ++ ones m) → number m (x ++ ones m) ≤ N
-    → goesOn m N ((x ++ ones r) ++ (true ∷ [])) ≡ true
+    → beginsSome m N ((x ++ ones r) ++ (true ∷ [])) ≡ true
 ones-go m N x r p l c h =
     let j : ℕ = m - suc r in
     let all : r + suc j ≡ m = omega arith in
@@ -330,10 +329,10 @@ ones-go m N x r p l c h =
     ∙ ap (λ (b : List Bool). x ++ b) (replicate-append-replicate r (suc j) true ∙ ap ones all) in
     goes-codeword m N ((x ++ ones r) ++ (true ∷ [])) (ones j) p (rw e c) (rw e h)
 
-one-goes : (m N : ℕ) (p : List Bool) → 1 ≤ m → runs m p ≡ 0 → number m (p ++ (false ∷ ones m)) ≤ N → goesOn m N (p ++ (true ∷ [])) ≡ true
+one-goes : (m N : ℕ) (p : List Bool) → 1 ≤ m → runs m p ≡ 0 → number m (p ++ (false ∷ ones m)) ≤ N → beginsSome m N (p ++ (true ∷ [])) ≡ true
 one-goes m N p k free h = let x = ending p in go (x .0) (x .1)
   where
-    go : (r : ℕ) → (p ≡ ones r) ⊎ ((y : List Bool) × (p ≡ (y ++ (false ∷ [])) ++ ones r)) → goesOn m N (p ++ (true ∷ [])) ≡ true
+    go : (r : ℕ) → (p ≡ ones r) ⊎ ((y : List Bool) × (p ≡ (y ++ (false ∷ [])) ++ ones r)) → beginsSome m N (p ++ (true ∷ [])) ≡ true
     go r (inl e) =
         let few : r < m = few-ones m r k (ap (runs m) (sym e) ∙ free) in
         rw e (ones-go m N [] r k few (form-codeword m (ones m) k (inl refl)) (omega (arith, number-one m, next-number m p, first-pos m (suc (length p)))))
@@ -378,7 +377,7 @@ all-in P p [] x i = absurd (in-none p i)
 all-in P p (r ∷ l) x i = ⊎-elim (λ (e : p ≡ r). subst P (sym e) (x .0)) (all-in P p l (x .1)) (in-cons p r l i)
 
 -- no string begins with itself and a bit more
-no-longer : (p : List Bool) (a : Bool) → begins (p ++ (a ∷ [])) p ≡ true → ⊥
+no-longer : (p : List Bool) (a : Bool) → isPrefix (p ++ (a ∷ [])) p ≡ true → ⊥
 no-longer p a e =
     omega (
       arith,

@@ -15,22 +15,22 @@ use Rattle.fibonacci.specs.Code.{codeword}
 use Rattle.fibonacci.specs.Tables.{Positions}
 use Rattle.calls.proofs.Checks.{both}
 use Rattle.fibonacci.proofs.Numeration.{F-pos}
-use Rattle.wavelet.specs.Nodes.{begins, leaf, prune}
-use Rattle.wavelet.specs.Questions.{mostAlphabet}
-use Rattle.wavelet.specs.Walk.{At, Low, nodeTest, sideOf, ends, Ends, Starts, Closes}
-use Rattle.wavelet.specs.declared.Spot.{Spot}
-use Rattle.wavelet.proofs.Pruned.{stands-node, stands-high, stands-full, high-only, full-only}
+use Rattle.wavelet.specs.Nodes.{isPrefix, leaf, prune}
+use Rattle.wavelet.specs.Questions.{maxAlphabet}
+use Rattle.wavelet.specs.Leaves.{CursorAt, Low, nodeTest, sideOf, ends, Ends, Starts, Closes}
+use Rattle.wavelet.specs.declared.Cursor.{Cursor}
+use Rattle.wavelet.proofs.Pruned.{cursor-node, cursor-high, cursor-full, high-only, full-only}
 use Rattle.wavelet.proofs.Ends.{ends-none, ends-leaf, ends-short, ends-cut, ends-on}
 
-pub is-node : (m N : ℕ) (v : Spot) → nodeTest m N v ≡ true → (v .ones < m) × (v .next ≤ N)
+pub is-node : (m N : ℕ) (v : Cursor) → nodeTest m N v ≡ true → (v .ones < m) × (v .next ≤ N)
 is-node m N v e = let b = both (ltb (v .ones) m) (leb (v .next) N) e in (ltb-true _ _ (b .0), leb-true _ _ (b .1))
 
 -- what the step to a side asks
-pub side-legal : (m N : ℕ) (v : Spot) (row : List ℕ) → Positions m row → N ≤ mostAlphabet → Low m v → nodeTest m N v ≡ true
-    → Positions m row × Low m v × (v .next ≤ mostAlphabet) × (v .ones ≤ m)
+pub side-legal : (m N : ℕ) (v : Cursor) (row : List ℕ) → Positions m row → N ≤ maxAlphabet → Low m v → nodeTest m N v ≡ true
+    → Positions m row × Low m v × (v .next ≤ maxAlphabet) × (v .ones ≤ m)
 side-legal m N v row p h low e = let n = is-node m N v e in (p, low, omega (arith, n .1), omega (arith, n .0))
 
-off-node : (m N : ℕ) (v : Spot) → nodeTest m N v ≡ false → (m ≤ v .ones) ⊎ (N < v .next)
+off-node : (m N : ℕ) (v : Cursor) → nodeTest m N v ≡ false → (m ≤ v .ones) ⊎ (N < v .next)
 off-node m N v e =
     elim (decLe m (v .ones)) [
       | yes l ↦ inl l
@@ -41,15 +41,15 @@ off-node m N v e =
           ]
     ]
 
-pub is-leaf : (m N : ℕ) (v : Spot) → nodeTest m N v ≡ false → (f : ℕ) (q : List Bool) → At m N f q v → prune m N f q ≡ leaf (v .number)
-is-leaf m N v e f q h = ⊎-elim (stands-full h) (stands-high h) (off-node m N v e)
+pub is-leaf : (m N : ℕ) (v : Cursor) → nodeTest m N v ≡ false → (f : ℕ) (q : List Bool) → CursorAt m N f q v → prune m N f q ≡ leaf (v .number)
+is-leaf m N v e f q h = ⊎-elim (cursor-full h) (cursor-high h) (off-node m N v e)
 
 -- at a leaf only its number is left
-pub leaf-only : {m N f : ℕ} {q : List Bool} {v : Spot} → At m N f q v → nodeTest m N v ≡ false → (n : ℕ) → 1 ≤ n → n ≤ N
-    → begins q (codeword m n) ≡ true → n ≡ v .number
+pub leaf-only : {m N f : ℕ} {q : List Bool} {v : Cursor} → CursorAt m N f q v → nodeTest m N v ≡ false → (n : ℕ) → 1 ≤ n → n ≤ N
+    → isPrefix q (codeword m n) ≡ true → n ≡ v .number
 leaf-only {m} {N} {v = v} h e n a b g = ⊎-elim (λ l. full-only h l n a g) (λ l. high-only h l n a b g) (off-node m N v e)
 
-module _ (m N : ℕ) (v : Spot) (k : ℕ) (s : List ℕ) (at : ℕ) (here : at ≤ 8 * length s) where
+module _ (m N : ℕ) (v : Cursor) (k : ℕ) (s : List ℕ) (at : ℕ) (here : at ≤ 8 * length s) where
   inside : at ≤ length (unpack s)
   inside = omega (arith, unpack-length s)
 
@@ -63,13 +63,13 @@ module _ (m N : ℕ) (v : Spot) (k : ℕ) (s : List ℕ) (at : ℕ) (here : at �
     -- its bitmap runs past the bits
     pub end-short : length s * 8 - at < k → Ends m N v k s at (length s * 8 + 1)
     end-short l f q h =
-        let t = stands-node h (is-node m N v e .0) (is-node m N v e .1) in
+        let t = cursor-node h (is-node m N v e .0) (is-node m N v e .1) in
         rw (t .tree-is) (omega (arith, unpack-length s, ends-short q (prune m N (t .g) (q ++ (false ∷ []))) (prune m N (t .g) (q ++ (true ∷ []))) k (unpack s) at 0 (omega (arith, unpack-length s))))
 
     module _ (fits : at + k ≤ 8 * length s) (c : ℕ) (ones : c ≡ count true (take k (drop at (unpack s)))) (mid : ℕ)
-        (x : Spot) (made : x ≡ sideOf m v false) (ending : Ends m N x (k - c) s (at + k) mid) where
+        (x : Cursor) (made : x ≡ sideOf m v false) (ending : Ends m N x (k - c) s (at + k) mid) where
       zero-side : Ends m N (sideOf m v false) (k - c) s (at + k) mid
-      zero-side = subst (λ (x : Spot). Ends m N x (k - c) s (at + k) mid) made ending
+      zero-side = subst (λ (x : Cursor). Ends m N x (k - c) s (at + k) mid) made ending
 
       in-bits : at + k ≤ length (unpack s)
       in-bits = omega (arith, unpack-length s)
@@ -77,31 +77,31 @@ module _ (m N : ℕ) (v : Spot) (k : ℕ) (s : List ℕ) (at : ℕ) (here : at �
       -- its 0 side does
       pub end-cut : length s * 8 < mid → Ends m N v k s at mid
       end-cut l f q h =
-          let t = stands-node h (is-node m N v e .0) (is-node m N v e .1) in
+          let t = cursor-node h (is-node m N v e .0) (is-node m N v e .1) in
           rw (t .tree-is) (ends-cut q _ _ k (unpack s) at c in-bits ones mid (zero-side (t .g) _ (t .zero-side)) (omega (arith, unpack-length s)))
 
       -- all ends where its 1 side does
-      pub end-on : mid ≤ length s * 8 → (r : ℕ) (y : Spot) → y ≡ sideOf m v true → Ends m N y c s mid r → Ends m N v k s at r
+      pub end-on : mid ≤ length s * 8 → (r : ℕ) (y : Cursor) → y ≡ sideOf m v true → Ends m N y c s mid r → Ends m N v k s at r
       end-on l r y e2 last f q h =
-          let t = stands-node h (is-node m N v e .0) (is-node m N v e .1) in
-          subst (λ (y : Spot). Ends m N y c s mid r) e2 last (t .g) _ (t .one-side)
+          let t = cursor-node h (is-node m N v e .0) (is-node m N v e .1) in
+          subst (λ (y : Cursor). Ends m N y c s mid r) e2 last (t .g) _ (t .one-side)
           ∙ rw (t .tree-is) (ends-on q _ _ k (unpack s) at c in-bits ones mid (zero-side (t .g) _ (t .zero-side)) (omega (arith, unpack-length s)))
 
 -- where the bitmaps of a side start, and where all end once those of a side do
-module _ (m N : ℕ) (v : Spot) (c : ℕ) (s : List ℕ) (at : ℕ) (one : Bool) where
+module _ (m N : ℕ) (v : Cursor) (c : ℕ) (s : List ℕ) (at : ℕ) (one : Bool) where
   pub starts-zero : (k : ℕ) → one ≡ false → Starts m N v k c s at one (at + k)
   starts-zero k e = rw e refl
 
-  pub starts-one : (k r : ℕ) (x : Spot) → one ≡ true → x ≡ sideOf m v false → Ends m N x (k - c) s (at + k) r → Starts m N v k c s at one r
-  starts-one k r x e made ending = rw e (subst (λ (x : Spot). Ends m N x (k - c) s (at + k) r) made ending)
+  pub starts-one : (k r : ℕ) (x : Cursor) → one ≡ true → x ≡ sideOf m v false → Ends m N x (k - c) s (at + k) r → Starts m N v k c s at one r
+  starts-one k r x e made ending = rw e (subst (λ (x : Cursor). Ends m N x (k - c) s (at + k) r) made ending)
 
   pub closes-one : one ≡ true → Closes m N v c s at one at
   closes-one e = rw e refl
 
-  pub closes-zero : (r : ℕ) (x : Spot) → one ≡ false → x ≡ sideOf m v true → Ends m N x c s at r → Closes m N v c s at one r
-  closes-zero r x e made ending = rw e (subst (λ (x : Spot). Ends m N x c s at r) made ending)
+  pub closes-zero : (r : ℕ) (x : Cursor) → one ≡ false → x ≡ sideOf m v true → Ends m N x c s at r → Closes m N v c s at one r
+  closes-zero r x e made ending = rw e (subst (λ (x : Cursor). Ends m N x c s at r) made ending)
 
 -- a side has a larger next number
-pub less : (m N : ℕ) (v : Spot) (one : Bool) {u : Spot} (t : ℕ) → suc N - v .next ≡ t → u ≡ sideOf m v one → (1 ≤ m) → (v .ones < m) × (v .next ≤ N) → suc N - u .next < t
+pub less : (m N : ℕ) (v : Cursor) (one : Bool) {u : Cursor} (t : ℕ) → suc N - v .next ≡ t → u ≡ sideOf m v one → (1 ≤ m) → (v .ones < m) × (v .next ≤ N) → suc N - u .next < t
 less m N v false t e h o n = rw h (omega (arith, F-pos m (v .depth + 1) o))
 less m N v true t e h o n = rw h (omega (arith, F-pos m (v .depth + 1) o))

@@ -4,15 +4,16 @@ use mathlib.Core.List.{List, [], _∷_, map, flatten}
 use Prim.Native.Nat.{ℕ, _+_}
 use lib.Dec.{eqb}
 use lib.ListN.{length, getD, take, drop, replicate}
+use Rattle.lists.specs.Lists.{filter}
 use Rattle.bits.specs.Bits.{unpack, byteCount, pack, count}
 use Rattle.fibonacci.specs.Code.{codeword}
-use Rattle.wavelet.specs.Nodes.{those, begins, Tree, leaf, node, tree, nodes}
+use Rattle.wavelet.specs.Nodes.{isPrefix, Tree, leaf, node, tree, nodes}
 
 -- ## From a row to bits
 
 -- The bitmap of a node p: for each row number whose codeword begins with p, in row order, the next bit
 unfoldable pub bitmap : ℕ → List ℕ → List Bool → List Bool
-bitmap m row p = map (λ n. getD (codeword m n) (length p) false) (those (λ n. begins p (codeword m n)) row)
+bitmap m row p = map (λ n. getD (codeword m n) (length p) false) (filter (λ n. isPrefix p (codeword m n)) row)
 
 -- The bitmaps of a tree's nodes, joined in their order
 unfoldable pub joined : ℕ → Tree → List ℕ → List Bool
@@ -43,12 +44,12 @@ merge (false ∷ b) z o = getD z 0 0 ∷ merge b (drop 1 z) o
 merge (true ∷ b) z o = getD o 0 0 ∷ merge b z (drop 1 o)
 
 -- The k numbers that bitmaps hold
-unfoldable pub held : Tree → ℕ → List Bool → List ℕ
-held (leaf n) k b = replicate k n
-held (node p z o) k b =
+unfoldable pub rowOfBitmaps : Tree → ℕ → List Bool → List ℕ
+rowOfBitmaps (leaf n) k b = replicate k n
+rowOfBitmaps (node p z o) k b =
     merge (take k b)
-    (held z (count false (take k b)) (drop k b))
-    (held o (count true (take k b)) (drop (need z (count false (take k b)) (drop k b)) (drop k b)))
+    (rowOfBitmaps z (count false (take k b)) (drop k b))
+    (rowOfBitmaps o (count true (take k b)) (drop (need z (count false (take k b)) (drop k b)) (drop k b)))
 
 -- Bytes are exactly as many as n bits need, and the padding holds no one
 abbrev pub exact : ℕ → List ℕ → Bool
@@ -59,5 +60,5 @@ unfoldable pub isIndex : ℕ → ℕ → ℕ → List ℕ → Bool
 isIndex m N k s = exact (need (tree m N) k (unpack s)) s
 
 -- The row of k numbers that the bytes of an index hold
-unfoldable pub rowOf : ℕ → ℕ → ℕ → List ℕ → List ℕ
-rowOf m N k s = held (tree m N) k (unpack s)
+unfoldable pub rowOfIndex : ℕ → ℕ → ℕ → List ℕ → List ℕ
+rowOfIndex m N k s = rowOfBitmaps (tree m N) k (unpack s)

@@ -1,6 +1,5 @@
 pub mod Nodes
 pub mod Bitmaps
 pub mod Questions
-pub mod Demand
 pub mod Answers
-pub mod Walk
+pub mod Leaves

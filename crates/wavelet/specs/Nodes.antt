@@ -1,30 +1,27 @@
 -- The nodes of the row index (paper 01, "The row index"; source 000, section 4: the pruned Wavelet tree), for any order m and any alphabet 1 .. N.
+use mathlib.Core.Path.{_≡_}
 use mathlib.Core.Bool.{Bool, true, false, _&&_}
 use mathlib.Core.List.{List, [], _∷_, _++_}
 use Prim.Native.Nat.{ℕ, zero, suc, _+_}
 use lib.Dec.{leb}
 use lib.ListN.{length}
-use Rattle.bits.specs.Bits.{is}
-use Rattle.fibonacci.specs.Code.{valuesFrom, number, codeword}
-
--- The elements of a list that pass a test, in their order
-unfoldable pub those : {A : Type 0} → (A → Bool) → List A → List A
-those test [] = []
-those test (x ∷ xs) = elim (test x) [ true ↦ x ∷ those test xs | false ↦ those test xs ]
+use Rattle.lists.specs.Lists.{filter, valuesFrom}
+use Rattle.bits.specs.Bits.{sameBit}
+use Rattle.fibonacci.specs.Code.{number, codeword}
 
 -- p is the first bits of b, perhaps none or all of them
-unfoldable pub begins : List Bool → List Bool → Bool
-begins [] b = true
-begins (a ∷ p) [] = false
-begins (a ∷ p) (c ∷ b) = is a c && begins p b
+unfoldable pub isPrefix : List Bool → List Bool → Bool
+isPrefix [] b = true
+isPrefix (a ∷ p) [] = false
+isPrefix (a ∷ p) (c ∷ b) = sameBit a c && isPrefix p b
 
 -- Some of the codewords of all of 1 .. N, used or not, begins with p
-unfoldable pub goesOn : ℕ → ℕ → List Bool → Bool
-goesOn m N p = leb 1 (length (those (λ n. begins p (codeword m n)) (valuesFrom (λ n. n) 1 N)))
+unfoldable pub beginsSome : ℕ → ℕ → List Bool → Bool
+beginsSome m N p = leb 1 (length (filter (λ n. isPrefix p (codeword m n)) (valuesFrom (λ n. n) 1 N)))
 
 -- A node (paper 01: fork): a bit string, perhaps empty, after which both a 0 and a 1 continue some of these codewords
 unfoldable pub isNode : ℕ → ℕ → List Bool → Bool
-isNode m N p = goesOn m N (p ++ (false ∷ [])) && goesOn m N (p ++ (true ∷ []))
+isNode m N p = beginsSome m N (p ++ (false ∷ [])) && beginsSome m N (p ++ (true ∷ []))
 
 -- ## The pruned tree
 
@@ -37,14 +34,14 @@ pub data Tree : Type 0 where
 unfoldable pub prune : ℕ → ℕ → ℕ → List Bool → Tree
 prune m N zero p = leaf (number m p)
 prune m N (suc d) p =
-    elim (goesOn m N (p ++ (false ∷ []))) [
+    elim (beginsSome m N (p ++ (false ∷ []))) [
       | true ↦
-          elim (goesOn m N (p ++ (true ∷ []))) [
+          elim (beginsSome m N (p ++ (true ∷ []))) [
             | true ↦ node p (prune m N d (p ++ (false ∷ []))) (prune m N d (p ++ (true ∷ [])))
             | false ↦ prune m N d (p ++ (false ∷ []))
           ]
       | false ↦
-          elim (goesOn m N (p ++ (true ∷ []))) [
+          elim (beginsSome m N (p ++ (true ∷ []))) [
             | true ↦ prune m N d (p ++ (true ∷ []))
             | false ↦ leaf (number m p)
           ]
@@ -61,8 +58,17 @@ nodes (node p z o) = p ∷ (nodes z ++ nodes o)
 
 -- How many nodes of a tree begin the codeword of n
 abbrev pub visitsIn : ℕ → Tree → ℕ → ℕ
-visitsIn m t n = length (those (λ p. begins p (codeword m n)) (nodes t))
+visitsIn m t n = length (filter (λ p. isPrefix p (codeword m n)) (nodes t))
 
 -- The visits of a number (paper 01: looks): how many nodes begin its codeword
 unfoldable pub visits : ℕ → ℕ → ℕ → ℕ
 visits m N n = visitsIn m (tree m N) n
+
+-- p is one of a list's strings
+abbrev pub In : List Bool → List (List Bool) → Type 0
+In p ps = (a : List (List Bool)) × (b : List (List Bool)) × (ps ≡ a ++ (p ∷ b))
+
+-- No string stands twice in a list
+abbrev pub Once : List (List Bool) → Type 0
+Once [] = Unit {0}
+Once (p ∷ ps) = (In p ps → ⊥) × Once ps

@@ -4,23 +4,23 @@ use mathlib.Core.List.{List, map}
 use Prim.Native.Nat.{ℕ, _-_}
 use lib.Dec.{leb, ltb, eqb}
 use lib.ListN.{length, getD, take}
-use Rattle.bits.specs.Bits.{count, place}
+use Rattle.bits.specs.Bits.{count, selectBit}
 use Rattle.calls.specs.declared.Refusal.the-variants.{BadOrder, TooManyNumbers, NoRoom, BadPlace, BadUse, BadAlphabet, OutsideAlphabet, NotAnIndex, TooFewUses}
 use Rattle.calls.specs.Calls.{Outcome, accepted, check, buffer}
-use Rattle.calls.specs.Limits.{isOrder, isNumber, longest, checkEach}
+use Rattle.calls.specs.Limits.{isOrder, isNumber, maxCount, checkEach}
 use Rattle.wavelet.specs.Nodes.{visits}
-use Rattle.wavelet.specs.Bitmaps.{bitmaps, index, isIndex, rowOf}
+use Rattle.wavelet.specs.Bitmaps.{bitmaps, index, isIndex, rowOfIndex}
 
 -- The largest alphabet (paper 01: top)
-abbrev pub mostAlphabet : ℕ
-mostAlphabet = 4096
+abbrev pub maxAlphabet : ℕ
+maxAlphabet = 4096
 
 -- 1 order not 2 to 6; 9 alphabet not 1 to 4,096; 4 more than 4,096 numbers
 abbrev pub checkTree : {A : Type 0} → ℕ → ℕ → ℕ → Outcome A → Outcome A
 checkTree m N k next =
     check BadOrder (not (isOrder m))
-    (check BadAlphabet (not (isNumber mostAlphabet N))
-    (check TooManyNumbers (ltb longest k) next))
+    (check BadAlphabet (not (isNumber maxAlphabet N))
+    (check TooManyNumbers (ltb maxCount k) next))
 
 -- Build: 1, 9, 4; 10 a number is 0 or above the alphabet; 5 the output is shorter than the index; else how many bits the bitmaps have
 unfoldable pub build : ℕ → ℕ → List ℕ → ℕ → Outcome ℕ
@@ -45,7 +45,7 @@ unfoldable pub rankIn : List ℕ → ℕ → ℕ → ℕ
 rankIn row n i = count true (uses n (take i row))
 
 unfoldable pub selectIn : List ℕ → ℕ → ℕ → ℕ
-selectIn row n j = place true (j - 1) (uses n row)
+selectIn row n j = selectBit true (j - 1) (uses n row)
 
 -- ## The three questions: what the row answers, and the visits of the number concerned
 
@@ -58,7 +58,7 @@ unfoldable pub extract : ℕ → ℕ → ℕ → List ℕ → ℕ → Outcome (�
 extract m N k s i =
     ask m N k s
     (check BadPlace (leb k i)
-    (accepted (getD (rowOf m N k s) i 0, visits m N (getD (rowOf m N k s) i 0))))
+    (accepted (getD (rowOfIndex m N k s) i 0, visits m N (getD (rowOfIndex m N k s) i 0))))
 
 -- Rank of n among the first i places: 10 the number is 0 or above the alphabet; 8 i above the length
 unfoldable pub rank : ℕ → ℕ → ℕ → List ℕ → ℕ → ℕ → Outcome (ℕ × ℕ)
@@ -66,7 +66,7 @@ rank m N k s n i =
     ask m N k s
     (check (OutsideAlphabet 0) (not (isNumber N n))
     (check BadPlace (ltb k i)
-    (accepted (rankIn (rowOf m N k s) n i, visits m N n))))
+    (accepted (rankIn (rowOfIndex m N k s) n i, visits m N n))))
 
 -- Select the j-th use of n: 10; 8 j is 0; 12 fewer than j uses
 unfoldable pub select : ℕ → ℕ → ℕ → List ℕ → ℕ → ℕ → Outcome (ℕ × ℕ)
@@ -74,5 +74,5 @@ select m N k s n j =
     ask m N k s
     (check (OutsideAlphabet 0) (not (isNumber N n))
     (check BadUse (eqb j 0)
-    (check TooFewUses (ltb (rankIn (rowOf m N k s) n k) j)
-    (accepted (selectIn (rowOf m N k s) n j, visits m N n)))))
+    (check TooFewUses (ltb (rankIn (rowOfIndex m N k s) n k) j)
+    (accepted (selectIn (rowOfIndex m N k s) n j, visits m N n)))))

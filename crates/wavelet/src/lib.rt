@@ -6,16 +6,16 @@ ghost use Rattle.bits.specs.Bits.{bitOf};
 ghost use Rattle.calls.specs.Calls.{accepted, countOutcome};
 ghost use Rattle.calls.specs.Limits.{isNumber};
 ghost use Rattle.fibonacci.specs.Tables.{Positions};
-ghost use Rattle.codewords.specs.Digits.{Tables};
-ghost use Rattle.wavelet.specs.Questions.{mostAlphabet, checkTree};
-ghost use Rattle.wavelet.specs.Walk.{Low, nodeTest, sideOf, Path, Root};
+ghost use Rattle.codewords.specs.Leaves.{Tables};
+ghost use Rattle.wavelet.specs.Questions.{maxAlphabet, checkTree};
+ghost use Rattle.wavelet.specs.Leaves.{Low, nodeTest, sideOf, Aligned, Root};
 use calls::CountAnswer;
 use calls::Refusal;
 
 // The limits of the index: the largest alphabet, and how many bytes an index has at most: 16 bits for each of 4,096 numbers.
-pub const MOST_ALPHABET: u64 = 4096;
+pub const MAX_ALPHABET: u64 = 4096;
 
-pub const MOST_INDEX: usize = 8192;
+pub const MAX_INDEX_BYTES: usize = 8192;
 
 // What a question answers: the number at a place, how often a number stands before a place, or the place of a use; and the visits of the number concerned.
 pub enum QuestionAnswer {
@@ -24,7 +24,7 @@ pub enum QuestionAnswer {
 }
 
 // A string of bits on a walk down the tree, by what the walk needs of it.
-pub struct Spot {
+pub struct Cursor {
     // How many bits it has.
     pub depth: usize,
     // The number of the codeword that goes on with a 0 and the last ones. The string is a node where that is a number of the alphabet.
@@ -42,20 +42,20 @@ pub fn check(order: usize, alphabet: u32, len: usize) -> CountAnswer
     if !calls::is_order(order) {
         return CountAnswer::Refused(Refusal::BadOrder);
     }
-    if !calls::is_number(calls::wide(alphabet), MOST_ALPHABET) {
+    if !calls::is_number(calls::wide(alphabet), MAX_ALPHABET) {
         return CountAnswer::Refused(Refusal::BadAlphabet);
     }
-    if len > calls::LONGEST {
+    if len > calls::MAX_COUNT {
         return CountAnswer::Refused(Refusal::TooManyNumbers);
     }
     CountAnswer::Count(alphabet as usize)
 }
 
 // The empty string.
-pub fn root() -> Spot
+pub fn root() -> Cursor
     ensures { λ r. ⌜ Root r ⌝ }
 {
-    Spot {
+    Cursor {
         depth: 0,
         next: 2,
         ones: 0,
@@ -64,7 +64,7 @@ pub fn root() -> Spot
 }
 
 // Whether a string is a node of the tree of 1 .. limit.
-pub fn is_node(order: usize, limit: u64, v: Spot) -> bool
+pub fn is_node(order: usize, limit: u64, v: Cursor) -> bool
     ensures { λ r. ⌜ r ≡ nodeTest order limit v ⌝ }
 {
     v.ones < order && v.next <= limit
@@ -72,21 +72,21 @@ pub fn is_node(order: usize, limit: u64, v: Spot) -> bool
 
 // The string with a bit more. A walk calls it where it has seen a node, from the root on. Every operation checks its order before, and takes its row of
 // position values.
-pub fn side(positions: &[u32; 47], order: usize, v: Spot, one: bool) -> Spot
-    requires { ⌜ Positions order (now positions) × Low order v × (v .next ≤ mostAlphabet) × (v .ones ≤ order) ⌝ }
+pub fn side(positions: &[u32; 47], order: usize, v: Cursor, one: bool) -> Cursor
+    requires { ⌜ Positions order (now positions) × Low order v × (v .next ≤ maxAlphabet) × (v .ones ≤ order) ⌝ }
     ensures { λ r. ⌜ (r ≡ sideOf order v one) × Low order r ⌝ }
 {
     let depth = v.depth + 1;
     let step = fibonacci::position(positions, order, depth);
     if one {
-        Spot {
+        Cursor {
             depth,
             next: v.next + step + step,
             ones: v.ones + 1,
             number: v.number,
         }
     } else {
-        Spot {
+        Cursor {
             depth,
             next: v.next + step,
             ones: 0,
@@ -95,11 +95,17 @@ pub fn side(positions: &[u32; 47], order: usize, v: Spot, one: bool) -> Spot
     }
 }
 
-// The codeword of a number of the alphabet from the top of a word: at most 16 bits and the last ones. Building and `asked` check the number before, and
+// The codeword of a number of the alphabet from the top of a word: at most 16 bits and the last ones. Building and `target_codeword` check the number before, and
 // every operation its order.
-pub fn path(positions: &[u32; 47], firsts: &[u32; 47], low: &[u8; 64], order: usize, n: u64) -> u32
-    requires { ⌜ Tables order (now positions) (now firsts) (now low) × (1 ≤ n) × (n ≤ mostAlphabet) ⌝ }
-    ensures { λ r. ⌜ Path order n r ⌝ }
+pub fn aligned_codeword(
+    positions: &[u32; 47],
+    firsts: &[u32; 47],
+    low: &[u8; 64],
+    order: usize,
+    n: u64,
+) -> u32
+    requires { ⌜ Tables order (now positions) (now firsts) (now low) × (1 ≤ n) × (n ≤ maxAlphabet) ⌝ }
+    ensures { λ r. ⌜ Aligned order n r ⌝ }
 {
     let word = codewords::coded(positions, firsts, low, order, n);
     (word.bits << (32 - word.len)) as u32
@@ -107,16 +113,16 @@ pub fn path(positions: &[u32; 47], firsts: &[u32; 47], low: &[u8; 64], order: us
 
 // The codeword of n from the top of a word. Where n is no number of the alphabet, any word does: a walk by it still shows whether the bytes are an index.
 // The walk of a question checks order and alphabet before.
-pub fn asked(positions: &[u32; 47], order: usize, limit: u64, n: u64) -> u32
-    requires { ⌜ Positions order (now positions) × (limit ≤ mostAlphabet) ⌝ }
-    ensures { λ r. ⌜ (isNumber limit n ≡ true → Path order n r) ⌝ }
+pub fn target_codeword(positions: &[u32; 47], order: usize, limit: u64, n: u64) -> u32
+    requires { ⌜ Positions order (now positions) × (limit ≤ maxAlphabet) ⌝ }
+    ensures { λ r. ⌜ (isNumber limit n ≡ true → Aligned order n r) ⌝ }
 {
     if !calls::is_number(n, limit) {
         return 0;
     }
     let firsts = fibonacci::first_numbers(order);
     let low = codewords::low_digits(order);
-    path(positions, &firsts, &low, order, n)
+    aligned_codeword(positions, &firsts, &low, order, n)
 }
 
 // The bit after `depth` others in a codeword that stands at the top of a word. The tree is at most 16 deep.

@@ -1,3 +1,2 @@
-pub mod Stretches
-pub mod Parting
-pub mod Spreading
+pub mod Partitioning
+pub mod Subtrees

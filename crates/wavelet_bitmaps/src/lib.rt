@@ -7,17 +7,17 @@ ghost use lib.ListN.{length};
 ghost use lib.Seq.{sets};
 ghost use Rattle.bits.specs.Bits.{unpack, count};
 ghost use Rattle.fibonacci.specs.Tables.{Positions};
-ghost use Rattle.wavelet.specs.Questions.{mostAlphabet};
+ghost use Rattle.wavelet.specs.Questions.{maxAlphabet};
 ghost use Rattle.wavelet.specs.Answers.{Passed};
-ghost use Rattle.wavelet.specs.Walk.{Low, mostIndex};
-ghost use Rattle.wavelet_bitmaps.specs.Spreading.{bitAfter, parted, room, Spread, Written};
+ghost use Rattle.wavelet.specs.Leaves.{Low, maxIndexBytes};
+ghost use Rattle.wavelet_bitmaps.specs.Leaves.{bitAfter, partitioned, room, WritesSubtree, WritesBitmaps};
 
 // A node: writes the next bits of the words' codewords as its bitmap from bit `at` on, and parts the words by them, those with a 0 first; the result is how
 // many those are. The others go by way of `spare`. No branch goes by a bit, which a processor cannot foretell: each word is stored on both sides, and its
 // bit says on which it stays.
-fn part(words: &mut [u32], spare: &mut [u32], depth: usize, out: &mut [u8], at: usize) -> usize
+fn partition(words: &mut [u32], spare: &mut [u32], depth: usize, out: &mut [u8], at: usize) -> usize
     requires { ⌜ (depth < 32) × (length (now words) ≤ length (now spare)) × (at + length (now words) ≤ 8 * length (now out)) × (8 * length (now out) < 2 ^ 64) ⌝ }
-    ensures { λ r. ⌜ (r ≡ count false (map (bitAfter depth) (now (words .entry)))) × (now (words .exit) ≡ parted depth (now (words .entry))) × (unpack (now (out .exit)) ≡ sets (unpack (now (out .entry))) at (map (bitAfter depth) (now (words .entry)))) ⌝ }
+    ensures { λ r. ⌜ (r ≡ count false (map (bitAfter depth) (now (words .entry)))) × (now (words .exit) ≡ partitioned depth (now (words .entry))) × (unpack (now (out .exit)) ≡ sets (unpack (now (out .entry))) at (map (bitAfter depth) (now (words .entry)))) ⌝ }
 {
     let mut ones: usize = 0;
     for i in 0..words.len() {
@@ -35,18 +35,18 @@ fn part(words: &mut [u32], spare: &mut [u32], depth: usize, out: &mut [u8], at: 
 
 // Writes the bitmaps below a string, from bit `at` on, of the numbers whose codewords the words have; the result is where they end. At a node the words
 // are parted in place, so each side has its own part of them, in the row's order.
-fn spread(
+fn write_subtree(
     positions: &[u32; 47],
     order: usize,
     limit: u64,
-    v: wavelet::Spot,
+    v: wavelet::Cursor,
     words: &mut [u32],
     spare: &mut [u32],
     out: &mut [u8],
     at: usize,
 ) -> usize
-    requires { ⌜ Positions order (now positions) × (limit ≤ mostAlphabet) × Low order v × (length (now words) ≤ length (now spare)) × (at + room (v .depth) (length (now words)) ≤ 8 * length (now out)) × (length (now out) ≤ mostIndex) ⌝ }
-    ensures { λ r. ⌜ (r ≤ at + room (v .depth) (length (now (words .entry)))) × Spread order limit v (now (words .entry)) at (now (out .entry)) r (now (out .exit)) ⌝ }
+    requires { ⌜ Positions order (now positions) × (limit ≤ maxAlphabet) × Low order v × (length (now words) ≤ length (now spare)) × (at + room (v .depth) (length (now words)) ≤ 8 * length (now out)) × (length (now out) ≤ maxIndexBytes) ⌝ }
+    ensures { λ r. ⌜ (r ≤ at + room (v .depth) (length (now (words .entry)))) × WritesSubtree order limit v (now (words .entry)) at (now (out .entry)) r (now (out .exit)) ⌝ }
 {
     let n = words.len();
     if n == 0 {
@@ -55,9 +55,9 @@ fn spread(
     if !wavelet::is_node(order, limit, v) {
         return at;
     }
-    let zeros = part(words, spare, v.depth, out, at);
+    let zeros = partition(words, spare, v.depth, out, at);
     let zero = wavelet::side(positions, order, v, false);
-    let mid = spread(
+    let mid = write_subtree(
         positions,
         order,
         limit,
@@ -68,7 +68,7 @@ fn spread(
         at + n,
     );
     let one = wavelet::side(positions, order, v, true);
-    spread(
+    write_subtree(
         positions,
         order,
         limit,
@@ -82,19 +82,19 @@ fn spread(
 
 // Writes the bitmaps of a row from the front of a buffer; the words have the codewords of its numbers. The result is how many bits they have. Building
 // checks order, alphabet and length before.
-pub fn spread_row(
+pub fn write_bitmaps(
     positions: &[u32; 47],
     order: usize,
     alphabet: u32,
     words: &mut [u32],
     out: &mut [u8],
 ) -> usize
-    requires { ⌜ Positions order (now positions) × Passed order alphabet (length (now words)) × (length (now out) ≡ mostIndex) ⌝ }
-    ensures { λ r. ⌜ (r ≤ 8 * mostIndex) × Written order alphabet (now (words .entry)) (now (out .entry)) r (now (out .exit)) ⌝ }
+    requires { ⌜ Positions order (now positions) × Passed order alphabet (length (now words)) × (length (now out) ≡ maxIndexBytes) ⌝ }
+    ensures { λ r. ⌜ (r ≤ 8 * maxIndexBytes) × WritesBitmaps order alphabet (now (words .entry)) (now (out .entry)) r (now (out .exit)) ⌝ }
 {
     let limit = calls::wide(alphabet);
-    let mut spare: [u32; calls::LONGEST] = [0; calls::LONGEST];
-    spread(
+    let mut spare: [u32; calls::MAX_COUNT] = [0; calls::MAX_COUNT];
+    write_subtree(
         positions,
         order,
         limit,

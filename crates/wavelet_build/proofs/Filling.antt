@@ -7,17 +7,17 @@ use native.Mathlib.Omega.{arith}
 use native.Mathlib.Numerals.{add-one}
 use lib.ListN.{length, getD, take, drop, set, drop-of-length-le}
 use lib.Seq.{take-suc-set, take-all}
+use Rattle.lists.proofs.Lists.{take-next}
 use Rattle.calls.proofs.Checks.{not-both, each-more, each-fault}
 use Rattle.calls.specs.declared.Refusal.the-variants.{OutsideAlphabet}
 use Rattle.calls.specs.Calls.{accepted, refused}
 use Rattle.calls.specs.Limits.{isNumber, checkEach}
-use Rattle.wavelet.specs.Walk.{Path}
-use Rattle.wavelet_bitmaps.specs.Spreading.{Paths}
-use Rattle.wavelet_bitmaps.proofs.Stretches.{take-next}
-use Rattle.wavelet_build.specs.Building.{Fills}
+use Rattle.wavelet.specs.Leaves.{Aligned}
+use Rattle.wavelet_bitmaps.specs.Leaves.{AllAligned}
+use Rattle.wavelet_build.specs.Leaves.{Fills}
 
 -- a number and its word more
-paths-snoc : (m : ℕ) (l xs : List ℕ) (n x : ℕ) → Paths m l xs → Path m n x → Paths m (l ++ (n ∷ [])) (xs ++ (x ∷ []))
+paths-snoc : (m : ℕ) (l xs : List ℕ) (n x : ℕ) → AllAligned m l xs → Aligned m n x → AllAligned m (l ++ (n ∷ [])) (xs ++ (x ∷ []))
 paths-snoc m [] [] n x p d = (d, tt)
 paths-snoc m [] (y ∷ xs) n x p d = absurd p
 paths-snoc m (k ∷ l) [] n x p d = absurd p
@@ -27,7 +27,7 @@ paths-snoc m (k ∷ l) (y ∷ xs) n x p d = (p .0, paths-snoc m l xs n x (p .1) 
 abbrev pub Filling : ℕ → ℕ → List ℕ → ℕ → List ℕ → Type 0
 Filling m limit row i words =
     (checkEach OutsideAlphabet limit 0 row (accepted (length row)) ≡ checkEach OutsideAlphabet limit i (drop i row) (accepted (length row)))
-    × Paths m (take i row) (take i words)
+    × AllAligned m (take i row) (take i words)
 
 -- at the start
 pub filling-none : (m limit : ℕ) (row words : List ℕ) → Filling m limit row 0 words
@@ -36,7 +36,7 @@ filling-none m limit row words = (refl, tt)
 module _ (m limit : ℕ) (row : List ℕ) (i : ℕ) (words : List ℕ) (f : Filling m limit row i words) where
   module _ (n : ℕ) (h : i < length row) (e : n ≡ getD row i 0) where
     -- it passes, and its word is stored
-    pub filling-more : (x : ℕ) → i < length words → isNumber limit n ≡ true → Path m n x → Filling m limit row (i + 1) (set words i x)
+    pub filling-more : (x : ℕ) → i < length words → isNumber limit n ≡ true → Aligned m n x → Filling m limit row (i + 1) (set words i x)
     filling-more x l q d = (
       f .0 ∙ each-more OutsideAlphabet limit row i n h e (accepted (length row)) q,
       rw (take-next row i 0 h, ← e, add-one, take-suc-set words i x l) (paths-snoc m (take i row) (take i words) n x (f .1) d),

@@ -4,8 +4,8 @@ ghost use Prim.Native.Nat.{_≤_};
 ghost use lib.ListN.{length};
 ghost use Rattle.calls.specs.Calls.{countOutcome};
 ghost use Rattle.fibonacci.specs.Tables.{Positions};
-ghost use Rattle.wavelet.specs.Questions.{mostAlphabet, build, buildInto};
-ghost use Rattle.wavelet_build.specs.Building.{Fills};
+ghost use Rattle.wavelet.specs.Questions.{maxAlphabet, build, buildInto};
+ghost use Rattle.wavelet_build.specs.Leaves.{Fills};
 use calls::CountAnswer;
 use calls::Refusal;
 
@@ -17,7 +17,7 @@ fn fill(
     row: &[u32],
     words: &mut [u32],
 ) -> CountAnswer
-    requires { ⌜ Positions order (now positions) × (alphabet ≤ mostAlphabet) × (length (now row) ≤ length (now words)) ⌝ }
+    requires { ⌜ Positions order (now positions) × (alphabet ≤ maxAlphabet) × (length (now row) ≤ length (now words)) ⌝ }
     ensures { λ r. ⌜ Fills order alphabet (now (row .entry)) (now (words .exit)) (countOutcome r) ⌝ }
 {
     let firsts = fibonacci::first_numbers(order);
@@ -28,7 +28,7 @@ fn fill(
         if !calls::is_number(n, limit) {
             return CountAnswer::Refused(Refusal::OutsideAlphabet(i));
         }
-        words[i] = wavelet::path(positions, &firsts, &low, order, n);
+        words[i] = wavelet::aligned_codeword(positions, &firsts, &low, order, n);
     }
     CountAnswer::Count(row.len())
 }
@@ -42,13 +42,13 @@ pub fn build(order: usize, alphabet: u32, row: &[u32], out: &mut [u8]) -> CountA
         return CountAnswer::Refused(r);
     }
     let positions = fibonacci::positions(order);
-    let mut words: [u32; calls::LONGEST] = [0; calls::LONGEST];
+    let mut words: [u32; calls::MAX_COUNT] = [0; calls::MAX_COUNT];
     let filled = fill(&positions, order, alphabet, row, &mut words);
     if let CountAnswer::Refused(r) = filled {
         return CountAnswer::Refused(r);
     }
-    let mut bytes: [u8; wavelet::MOST_INDEX] = [0; wavelet::MOST_INDEX];
-    let bits = wavelet_bitmaps::spread_row(
+    let mut bytes: [u8; wavelet::MAX_INDEX_BYTES] = [0; wavelet::MAX_INDEX_BYTES];
+    let bits = wavelet_bitmaps::write_bitmaps(
         &positions,
         order,
         alphabet,

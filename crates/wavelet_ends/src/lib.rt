@@ -4,17 +4,17 @@ ghost use mathlib.Core.Bool.{true};
 ghost use Prim.Native.Nat.{_+_, _*_, _≤_};
 ghost use lib.ListN.{length, take, drop};
 ghost use Rattle.bits.specs.Bits.{unpack, count};
-ghost use Rattle.wavelet.specs.Walk.{nodeTest, Ready, Ends, Starts, Closes, Exact, mostIndex};
+ghost use Rattle.wavelet.specs.Leaves.{nodeTest, Ready, Ends, Starts, Closes, Exact, maxIndexBytes};
 
 // How many ones the bitmap of k bits has that starts at bit `at`. Its bytes are handed on with the offset of its first bit. A walk asks it only of bitmaps
 // that do not run past the bytes.
 pub fn ones_in(b: &[u8], at: usize, k: usize) -> usize
-    requires { ⌜ (at + k ≤ 8 * length (now b)) × (length (now b) ≤ mostIndex) ⌝ }
+    requires { ⌜ (at + k ≤ 8 * length (now b)) × (length (now b) ≤ maxIndexBytes) ⌝ }
     ensures { λ r. ⌜ (r ≡ count true (take k (drop at (unpack (now (b .entry)))))) × (r ≤ k) ⌝ }
 {
     let from = at / 8;
     let to = (at + k + 7) / 8;
-    bit_counts::ones_from(&b[from..to], at % 8, k)
+    rank_select::ones_from(&b[from..to], at % 8, k)
 }
 
 // Where the bitmaps below a string end that start at bit `at` and are of k numbers; one more than there are bits where they run past them.
@@ -22,7 +22,7 @@ fn end_of(
     positions: &[u32; 47],
     order: usize,
     limit: u64,
-    v: wavelet::Spot,
+    v: wavelet::Cursor,
     k: usize,
     b: &[u8],
     at: usize,
@@ -52,7 +52,7 @@ pub fn start_of(
     positions: &[u32; 47],
     order: usize,
     limit: u64,
-    v: wavelet::Spot,
+    v: wavelet::Cursor,
     k: usize,
     ones: usize,
     b: &[u8],
@@ -79,7 +79,7 @@ pub fn end_after(
     positions: &[u32; 47],
     order: usize,
     limit: u64,
-    v: wavelet::Spot,
+    v: wavelet::Cursor,
     ones: usize,
     b: &[u8],
     at: usize,
@@ -100,7 +100,7 @@ pub fn end_after(
 
 // Whether bitmaps that end at bit `end` take exactly the bytes, and the padding after them holds no one. The questions have seen that the bytes are few.
 pub fn is_exact(b: &[u8], end: usize) -> bool
-    requires { ⌜ length (now b) ≤ mostIndex ⌝ }
+    requires { ⌜ length (now b) ≤ maxIndexBytes ⌝ }
     ensures { λ r. ⌜ Exact (now (b .entry)) end r ⌝ }
 {
     let total = b.len() * 8;

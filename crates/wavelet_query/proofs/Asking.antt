@@ -9,26 +9,26 @@ use lib.Dec.{eqb}
 use lib.ListN.{length, length-map}
 use lib.Seq.{take-all}
 use borrow.Author.Tests.{le-leb, lt-leb, lt-ltb, le-ltb, eq-eqb, ne-eqb}
-use Rattle.bits.specs.Bits.{count, place}
-use Rattle.bits.proofs.Place.{place-found, place-none}
+use Rattle.bits.specs.Bits.{count, selectBit}
+use Rattle.bits.proofs.Select as bit
 use Rattle.calls.specs.declared.Refusal.{Refusal}
 use Rattle.calls.specs.declared.Refusal.the-variants.{BadPlace, BadUse, OutsideAlphabet, TooFewUses}
 use Rattle.calls.specs.Calls.{Outcome, accepted, refused}
 use Rattle.calls.specs.Limits.{isNumber}
-use Rattle.wavelet.specs.Bitmaps.{rowOf}
+use Rattle.wavelet.specs.Bitmaps.{rowOfIndex}
 use Rattle.wavelet.specs.Questions.{uses, rankIn, selectIn, ask, extract, rank, select}
 use Rattle.wavelet.specs.declared.QuestionAnswer.{QuestionAnswer}
 use Rattle.wavelet.specs.declared.QuestionAnswer.the-variants.{Answered, Refused}
-use Rattle.wavelet_walk.specs.Descent.{Walks}
+use Rattle.wavelet_walk.specs.Leaves.{Walks}
 use Rattle.wavelet_walk.specs.declared.Question.{Question}
 use Rattle.wavelet_walk.specs.declared.Question.the-variants.{Extract, Rank, Select}
 
 -- what a walk gives, by its answer
-module _ (m N k : ℕ) (s : List ℕ) (asked : Question) (n i : ℕ) {w : QuestionAnswer} (h : Walks m N k s asked n i w) where
+module _ (m N k : ℕ) (s : List ℕ) (question : Question) (n i : ℕ) {w : QuestionAnswer} (h : Walks m N k s question n i w) where
   pub walk-refused : (r : Refusal) → w ≡ Refused r → (next : Outcome (ℕ × ℕ)) → refused r ≡ ask m N k s next
   walk-refused r e = rw e at h
 
-  pub walk-answered : (r v : ℕ) → w ≡ Answered r v → Walks m N k s asked n i (Answered r v)
+  pub walk-answered : (r v : ℕ) → w ≡ Answered r v → Walks m N k s question n i (Answered r v)
   walk-answered r v e = rw e at h
 
 module _ (m N k : ℕ) (s : List ℕ) where
@@ -90,26 +90,26 @@ module _ (m N k : ℕ) (s : List ℕ) where
         select-none z = sym (simp (e, eq-eqb j 0 z)) ∙ w .0 _
 
         module _ (some : 1 ≤ j) where
-          uses-length : length (uses n (rowOf m N k s)) ≡ k
-          uses-length = length-map (rowOf m N k s) (eqb n) ∙ w .1
+          uses-length : length (uses n (rowOfIndex m N k s)) ≡ k
+          uses-length = length-map (rowOfIndex m N k s) (eqb n) ∙ w .1
 
-          all-uses : rankIn (rowOf m N k s) n k ≡ count true (uses n (rowOf m N k s))
+          all-uses : rankIn (rowOfIndex m N k s) n k ≡ count true (uses n (rowOfIndex m N k s))
           unfolding rankIn
-          all-uses = ap (λ (l : List ℕ). count true (uses n l)) (take-all k (rowOf m N k s) (omega (arith, w .1)))
+          all-uses = ap (λ (l : List ℕ). count true (uses n l)) (take-all k (rowOfIndex m N k s) (omega (arith, w .1)))
 
           -- the place is in the row exactly where there are j uses
-          few : k ≤ r → rankIn (rowOf m N k s) n k < j
+          few : k ≤ r → rankIn (rowOfIndex m N k s) n k < j
           few h =
-              elim (decLe j (count true (uses n (rowOf m N k s)))) [
-                | yes l ↦ absurd (omega (arith, w .2 e .0, uses-length, place-found true (j - 1) (uses n (rowOf m N k s)) (omega arith)))
+              elim (decLe j (count true (uses n (rowOfIndex m N k s)))) [
+                | yes l ↦ absurd (omega (arith, w .2 e .0, uses-length, bit.select-found true (j - 1) (uses n (rowOfIndex m N k s)) (omega arith)))
                 | no l ↦ omega (arith, all-uses)
               ]
 
-          enough : r < k → j ≤ rankIn (rowOf m N k s) n k
+          enough : r < k → j ≤ rankIn (rowOfIndex m N k s) n k
           enough h =
-              elim (decLe j (count true (uses n (rowOf m N k s)))) [
+              elim (decLe j (count true (uses n (rowOfIndex m N k s)))) [
                 | yes l ↦ omega (arith, all-uses)
-                | no l ↦ absurd (omega (arith, w .2 e .0, uses-length, place-none true (j - 1) (uses n (rowOf m N k s)) (omega arith)))
+                | no l ↦ absurd (omega (arith, w .2 e .0, uses-length, bit.select-none true (j - 1) (uses n (rowOfIndex m N k s)) (omega arith)))
               ]
 
           positive : eqb j 0 ≡ false

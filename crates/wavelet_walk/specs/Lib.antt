@@ -1,1 +1,1 @@
-pub mod Descent
+pub mod Leaves

@@ -3,9 +3,9 @@
 ghost use mathlib.Core.Path.{_≡_};
 ghost use Prim.Native.Nat.{_+_, _-_, _*_, _≤_, _<_};
 ghost use lib.ListN.{length, take, drop};
-ghost use Rattle.bits.specs.Bits.{unpack, place};
-ghost use Rattle.wavelet.specs.Walk.{Ready, side, mostIndex};
-ghost use Rattle.wavelet_walk.specs.Descent.{InView, turn, reached, onward, back, Finds, Walks};
+ghost use Rattle.bits.specs.Bits.{unpack, selectBit};
+ghost use Rattle.wavelet.specs.Leaves.{Ready, side, maxIndexBytes};
+ghost use Rattle.wavelet_walk.specs.Leaves.{InView, turn, atLeaf, onward, back, Finds, Walks};
 use calls::CountAnswer;
 use calls::Refusal;
 use wavelet::QuestionAnswer;
@@ -21,17 +21,17 @@ pub enum Question {
 }
 
 // What a walk finds: where the bitmaps end; what the question asks for, and how many nodes begin the codeword of the number that the walk comes to.
-struct Found {
+struct Walked {
     end: usize,
     result: usize,
     visits: usize,
 }
 
 // The bitmaps run past the bytes, and nothing is found.
-fn lost(end: usize) -> Found
+fn lost(end: usize) -> Walked
     ensures { λ r. ⌜ r .end ≡ end ⌝ }
 {
-    Found {
+    Walked {
         end,
         result: 0,
         visits: 0,
@@ -39,10 +39,10 @@ fn lost(end: usize) -> Found
 }
 
 // What is found where only the number n is left, k times.
-fn reached(asked: Question, n: usize, k: usize, i: usize) -> usize
-    ensures { λ r. ⌜ r ≡ reached asked n k i ⌝ }
+fn at_leaf(question: Question, n: usize, k: usize, i: usize) -> usize
+    ensures { λ r. ⌜ r ≡ atLeaf question n k i ⌝ }
 {
-    match asked {
+    match question {
         Question::Extract => n,
         Question::Rank => i,
         Question::Select => calls::least(i, k),
@@ -50,11 +50,11 @@ fn reached(asked: Question, n: usize, k: usize, i: usize) -> usize
 }
 
 // Whether a walk goes on with a 1 from a node whose bitmap starts at bit `at`; x is the codeword that it goes by.
-fn takes_one(asked: Question, x: u32, b: &[u8], at: usize, i: usize, depth: usize) -> bool
-    requires { ⌜ (depth < 32) × InView asked (at + i) (8 * length (now b)) × (length (now b) ≤ mostIndex) ⌝ }
-    ensures { λ r. ⌜ r ≡ turn asked x (now (b .entry)) at i depth ⌝ }
+fn takes_one(question: Question, x: u32, b: &[u8], at: usize, i: usize, depth: usize) -> bool
+    requires { ⌜ (depth < 32) × InView question (at + i) (8 * length (now b)) × (length (now b) ≤ maxIndexBytes) ⌝ }
+    ensures { λ r. ⌜ r ≡ turn question x (now (b .entry)) at i depth ⌝ }
 {
-    match asked {
+    match question {
         Question::Extract => bits::bit(b, at + i),
         _ => wavelet::next_bit(x, depth),
     }
@@ -69,33 +69,33 @@ fn count_on(one: bool, k: usize, ones: usize) -> usize
 }
 
 // What is in view on a side of a node: a place becomes how many of the numbers before it are on that side, and a use stays the same one.
-fn onward(asked: Question, b: &[u8], at: usize, i: usize, one: bool) -> usize
-    requires { ⌜ InView asked (at + i) (8 * length (now b)) × (length (now b) ≤ mostIndex) ⌝ }
-    ensures { λ r. ⌜ r ≡ onward asked one (drop at (unpack (now (b .entry)))) i ⌝ }
+fn onward(question: Question, b: &[u8], at: usize, i: usize, one: bool) -> usize
+    requires { ⌜ InView question (at + i) (8 * length (now b)) × (length (now b) ≤ maxIndexBytes) ⌝ }
+    ensures { λ r. ⌜ r ≡ onward question one (drop at (unpack (now (b .entry)))) i ⌝ }
 {
-    match asked {
+    match question {
         Question::Select => i,
         _ => count_on(one, i, wavelet_ends::ones_in(b, at, i)),
     }
 }
 
 // The place of the bit v that has j others of its kind before it in the bitmap of k bits that starts at bit `at`; k where there is none.
-fn place_in(b: &[u8], at: usize, k: usize, v: bool, j: usize) -> usize
-    requires { ⌜ (at + k ≤ 8 * length (now b)) × (length (now b) ≤ mostIndex) ⌝ }
-    ensures { λ r. ⌜ r ≡ place v j (take k (drop at (unpack (now (b .entry))))) ⌝ }
+fn select_in(b: &[u8], at: usize, k: usize, v: bool, j: usize) -> usize
+    requires { ⌜ (at + k ≤ 8 * length (now b)) × (length (now b) ≤ maxIndexBytes) ⌝ }
+    ensures { λ r. ⌜ r ≡ selectBit v j (take k (drop at (unpack (now (b .entry))))) ⌝ }
 {
     let from = at / 8;
     let to = (at + k + 7) / 8;
-    bit_counts::place_of(&b[from..to], at % 8, k, v, j)
+    rank_select::select_bit(&b[from..to], at % 8, k, v, j)
 }
 
 // What was found on a side of a node, on the way back: a place there becomes the place here.
-fn back(asked: Question, b: &[u8], at: usize, k: usize, one: bool, result: usize) -> usize
-    requires { ⌜ (at + k ≤ 8 * length (now b)) × (length (now b) ≤ mostIndex) ⌝ }
-    ensures { λ r. ⌜ r ≡ back asked one (take k (drop at (unpack (now (b .entry))))) result ⌝ }
+fn back(question: Question, b: &[u8], at: usize, k: usize, one: bool, result: usize) -> usize
+    requires { ⌜ (at + k ≤ 8 * length (now b)) × (length (now b) ≤ maxIndexBytes) ⌝ }
+    ensures { λ r. ⌜ r ≡ back question one (take k (drop at (unpack (now (b .entry))))) result ⌝ }
 {
-    match asked {
-        Question::Select => place_in(b, at, k, one, result),
+    match question {
+        Question::Select => select_in(b, at, k, one, result),
         _ => result,
     }
 }
@@ -105,20 +105,20 @@ fn descend(
     positions: &[u32; 47],
     order: usize,
     limit: u64,
-    v: wavelet::Spot,
+    v: wavelet::Cursor,
     k: usize,
     b: &[u8],
     at: usize,
-    asked: Question,
+    question: Question,
     x: u32,
     i: usize,
-) -> Found
-    requires { ⌜ Ready order limit v (now positions) (now b) at × InView asked i k ⌝ }
-    ensures { λ r. ⌜ Finds order limit v k (now (b .entry)) at asked x i r ⌝ }
+) -> Walked
+    requires { ⌜ Ready order limit v (now positions) (now b) at × InView question i k ⌝ }
+    ensures { λ r. ⌜ Finds order limit v k (now (b .entry)) at question x i r ⌝ }
 {
     if !wavelet::is_node(order, limit, v) {
-        let result = reached(asked, v.number as usize, k, i);
-        return Found {
+        let result = at_leaf(question, v.number as usize, k, i);
+        return Walked {
             end: at,
             result,
             visits: v.depth,
@@ -129,21 +129,32 @@ fn descend(
         return lost(total + 1);
     }
     let ones = wavelet_ends::ones_in(b, at, k);
-    let one = takes_one(asked, x, b, at, i, v.depth);
+    let one = takes_one(question, x, b, at, i, v.depth);
     let start = wavelet_ends::start_of(positions, order, limit, v, k, ones, b, at, one);
     if start > total {
         return lost(start);
     }
     let side = wavelet::side(positions, order, v, one);
     let count = count_on(one, k, ones);
-    let j = onward(asked, b, at, i, one);
-    let found = descend(positions, order, limit, side, count, b, start, asked, x, j);
+    let j = onward(question, b, at, i, one);
+    let found = descend(
+        positions,
+        order,
+        limit,
+        side,
+        count,
+        b,
+        start,
+        question,
+        x,
+        j,
+    );
     if found.end > total {
         return found;
     }
     let end = wavelet_ends::end_after(positions, order, limit, v, ones, b, found.end, one);
-    let result = back(asked, b, at, k, one, found.result);
-    Found {
+    let result = back(question, b, at, k, one, found.result);
+    Walked {
         end,
         result,
         ..found
@@ -157,25 +168,36 @@ pub fn walk(
     alphabet: u32,
     len: usize,
     b: &[u8],
-    asked: Question,
+    question: Question,
     n: u32,
     i: usize,
 ) -> QuestionAnswer
-    ensures { λ r. ⌜ Walks order alphabet len (now (b .entry)) asked n i r ⌝ }
+    ensures { λ r. ⌜ Walks order alphabet len (now (b .entry)) question n i r ⌝ }
 {
     let checked = wavelet::check(order, alphabet, len);
     if let CountAnswer::Refused(r) = checked {
         return QuestionAnswer::Refused(r);
     }
-    if b.len() > wavelet::MOST_INDEX {
+    if b.len() > wavelet::MAX_INDEX_BYTES {
         return QuestionAnswer::Refused(Refusal::NotAnIndex);
     }
     let positions = fibonacci::positions(order);
     let limit = calls::wide(alphabet);
-    let x = wavelet::asked(&positions, order, limit, calls::wide(n));
+    let x = wavelet::target_codeword(&positions, order, limit, calls::wide(n));
     let root = wavelet::root();
     let place = calls::least(i, len);
-    let found = descend(&positions, order, limit, root, len, b, 0, asked, x, place);
+    let found = descend(
+        &positions,
+        order,
+        limit,
+        root,
+        len,
+        b,
+        0,
+        question,
+        x,
+        place,
+    );
     if !wavelet_ends::is_exact(b, found.end) {
         return QuestionAnswer::Refused(Refusal::NotAnIndex);
     }

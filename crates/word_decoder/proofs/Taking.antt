@@ -8,36 +8,36 @@ use native.Mathlib.Decide.{decLe}
 use lib.ListN.{length, getD, take, drop, replicate, length-append, length-drop, take-append-drop, replicate-append-replicate}
 use lib.Seq.{drop-drop, drop-append-le, take-append-le, take-take, length-take-le}
 use lib.Count.{leadingZeros}
+use Rattle.lists.proofs.Each.{all-append}
 use Rattle.bits.specs.Bits.{wordBits}
 use Rattle.fibonacci.specs.Code.{value, first, number, codeword, Codeword}
 use Rattle.fibonacci.specs.Encoding.{rowBits}
 use Rattle.calls.proofs.Checks.{number-is, is-number}
-use Rattle.calls.proofs.Each.{all-append}
-use Rattle.calls.specs.Limits.{isNumber, largest, Order}
+use Rattle.calls.specs.Limits.{isNumber, maxNumber, Order}
 use Rattle.fibonacci.proofs.Lookup as lookup
 use Rattle.fibonacci.proofs.Numbers.{codeword-number, number-of}
 use Rattle.fibonacci.proofs.Rows.{bits-append}
-use Rattle.word_windows.specs.Windows.{Judged, starts, Ahead}
+use Rattle.word_windows.specs.Leaves.{ExactIfLegal, runStarts, WindowAt}
 use Rattle.word_windows.proofs.Loading.{drop-take}
-use Rattle.word_decoder.specs.Words.{Taken}
+use Rattle.word_decoder.specs.Leaves.{Taken}
 use Rattle.word_windows.proofs.Starts.{up, words-up, zeros-default, starts-zeros, starts-up, mark-one, mark-none, first-within, first-ends, first-coded, first-zero}
 
 -- ## The first codeword of a word
 
-module _ {b : List Bool} {k w : ℕ} (a : Ahead b k w) where
+module _ {b : List Bool} {k w : ℕ} (a : WindowAt b k w) where
   -- the bits that it has
-  abbrev held : List Bool
-  held = take (a .some) (drop k b)
+  abbrev windowBits : List Bool
+  windowBits = take (a .some) (drop k b)
 
-  held-length : length held ≡ a .some
-  held-length = length-take-le (a .some) (drop k b) (omega (arith, length-drop k b, a .within))
+  windowBits-length : length windowBits ≡ a .some
+  windowBits-length = length-take-le (a .some) (drop k b) (omega (arith, length-drop k b, a .within))
 
-  held-take : (n : ℕ) → n ≤ a .some → take n (wordBits 64 w) ≡ take n (drop k b)
-  held-take n h = ap (take n) (a .bits) ∙ take-append-le n held (replicate (a .others) false) (omega (arith, held-length)) ∙ take-take n (a .some) (drop k b) h
+  windowBits-take : (n : ℕ) → n ≤ a .some → take n (wordBits 64 w) ≡ take n (drop k b)
+  windowBits-take n h = ap (take n) (a .bits) ∙ take-append-le n windowBits (replicate (a .others) false) (omega (arith, windowBits-length)) ∙ take-take n (a .some) (drop k b) h
 
   -- what is left when t of them are taken off
-  pub ahead-up : (t : ℕ) → t ≤ a .some → Ahead b (k + t) (w * 2 ^ t % 2 ^ 64)
-  ahead-up t h =
+  pub window-up : (t : ℕ) → t ≤ a .some → WindowAt b (k + t) (w * 2 ^ t % 2 ^ 64)
+  window-up t h =
       record {
         some = a .some - t;
         others = a .others + t;
@@ -45,50 +45,50 @@ module _ {b : List Bool} {k w : ℕ} (a : Ahead b k w) where
         within = omega (arith, a .within);
         bits =
             words-up 64 w t (omega (arith, a .all)) ∙ ap (up t) (a .bits)
-            ∙ ap (λ (l : List Bool). l ++ replicate t false) (drop-append-le t held (replicate (a .others) false) (omega (arith, held-length)))
-            ∙ append-assoc (drop t held) (replicate (a .others) false) (replicate t false)
+            ∙ ap (λ (l : List Bool). l ++ replicate t false) (drop-append-le t windowBits (replicate (a .others) false) (omega (arith, windowBits-length)))
+            ∙ append-assoc (drop t windowBits) (replicate (a .others) false) (replicate t false)
             ∙ ap₂ (λ (x y : List Bool). x ++ y)
             (drop-take t (a .some) (drop k b) ∙ ap (take (a .some - t)) (drop-drop t k b))
             (replicate-append-replicate (a .others) t false);
       }
 
-  module _ (m y : ℕ) (pos : 1 ≤ m) (marks : wordBits 64 y ≡ starts m (wordBits 64 w)) (some : 1 ≤ y) (low : y < 2 ^ 64) where
+  module _ (m y : ℕ) (pos : 1 ≤ m) (marks : wordBits 64 y ≡ runStarts m (wordBits 64 w)) (some : 1 ≤ y) (low : y < 2 ^ 64) where
     -- how many bits stand before the last ones of the first codeword
-    abbrev stem : ℕ
-    stem = leadingZeros 64 y
+    abbrev body : ℕ
+    body = leadingZeros 64 y
 
-    marked : (i : ℕ) → getD (wordBits 64 y) i false ≡ getD (starts m held) i false
+    marked : (i : ℕ) → getD (wordBits 64 y) i false ≡ getD (runStarts m windowBits) i false
     marked i =
-        ap (λ (l : List Bool). getD l i false) (marks ∙ ap (starts m) (a .bits) ∙ starts-zeros m held (a .others) pos)
-        ∙ zeros-default (starts m held) (a .others) i
+        ap (λ (l : List Bool). getD l i false) (marks ∙ ap (runStarts m) (a .bits) ∙ starts-zeros m windowBits (a .others) pos)
+        ∙ zeros-default (runStarts m windowBits) (a .others) i
 
-    one : getD (starts m held) stem false ≡ true
-    one = sym (marked stem) ∙ mark-one 64 y some low
+    one : getD (runStarts m windowBits) body false ≡ true
+    one = sym (marked body) ∙ mark-one 64 y some low
 
-    none : (i : ℕ) → i < stem → getD (starts m held) i false ≡ false
+    none : (i : ℕ) → i < body → getD (runStarts m windowBits) i false ≡ false
     none i h = sym (marked i) ∙ mark-none 64 y some low i h
 
-    pub codeword-within : stem + m ≤ a .some
-    codeword-within = omega (arith, first-within m pos held stem one none, held-length)
+    pub codeword-within : body + m ≤ a .some
+    codeword-within = omega (arith, first-within m pos windowBits body one none, windowBits-length)
 
     abbrev word : List Bool
-    word = take (stem + m) (drop k b)
+    word = take (body + m) (drop k b)
 
-    held-word : take (stem + m) held ≡ word
-    held-word = take-take (stem + m) (a .some) (drop k b) codeword-within
+    windowBits-word : take (body + m) windowBits ≡ word
+    windowBits-word = take-take (body + m) (a .some) (drop k b) codeword-within
 
     pub word-coded : Codeword m word
-    word-coded = subst (Codeword m) held-word (first-coded m pos held stem one none)
+    word-coded = subst (Codeword m) windowBits-word (first-coded m pos windowBits body one none)
 
-    pub word-zero : 1 ≤ stem → getD (wordBits 64 w) (stem - 1) false ≡ false
+    pub word-zero : 1 ≤ body → getD (wordBits 64 w) (body - 1) false ≡ false
     word-zero h =
-        ap (λ (l : List Bool). getD l (stem - 1) false) (a .bits) ∙ zeros-default held (a .others) (stem - 1) ∙ first-zero m pos held stem one none h
+        ap (λ (l : List Bool). getD l (body - 1) false) (a .bits) ∙ zeros-default windowBits (a .others) (body - 1) ∙ first-zero m pos windowBits body one none h
 
-    pub word-number : number m word ≡ first m stem + value m 1 (take stem (wordBits 64 w))
+    pub word-number : number m word ≡ first m body + value m 1 (take body (wordBits 64 w))
     word-number =
-        let p : take stem held ≡ take stem (wordBits 64 w) = take-take stem (a .some) (drop k b) (omega (arith, codeword-within)) ∙ sym (held-take stem (omega (arith, codeword-within))) in
-        let l : length (take stem held) ≡ stem = length-take-le stem held (omega (arith, codeword-within, held-length)) in
-        ap (number m) (sym held-word ∙ first-ends m pos held stem one none) ∙ number-of m (take stem held)
+        let p : take body windowBits ≡ take body (wordBits 64 w) = take-take body (a .some) (drop k b) (omega (arith, codeword-within)) ∙ sym (windowBits-take body (omega (arith, codeword-within))) in
+        let l : length (take body windowBits) ≡ body = length-take-le body windowBits (omega (arith, codeword-within, windowBits-length)) in
+        ap (number m) (sym windowBits-word ∙ first-ends m pos windowBits body one none) ∙ number-of m (take body windowBits)
         ∙ ap₂ (λ (d : ℕ) (x : List Bool). first m d + value m 1 x) l p
 
 -- ## A number more
@@ -123,15 +123,15 @@ taken-more m limit b k e row t n p r h c is l =
 pub record Going (m limit : ℕ) (b : List Bool) (k₀ : ℕ) (row : List ℕ) (bit count left marks : ℕ) : Type 0 where
   pub taken : Taken m limit b k₀ bit row
   pub many : length row ≡ count
-  pub ahead : Ahead b bit left
-  pub marked : wordBits 64 marks ≡ starts m (wordBits 64 left)
+  pub window_at : WindowAt b bit left
+  pub marked : wordBits 64 marks ≡ runStarts m (wordBits 64 left)
   pub low : marks < 2 ^ 64
 
 module _ {m limit : ℕ} {b : List Bool} {k₀ : ℕ} {row : List ℕ} {bit count left marks : ℕ} (g : Going m limit b k₀ row bit count left marks) where
   -- the word is filled anew
-  pub going-filled : (left' marks' : ℕ) → Ahead b bit left' → wordBits 64 marks' ≡ starts m (wordBits 64 left') → marks' < 2 ^ 64
+  pub going-filled : (left' marks' : ℕ) → WindowAt b bit left' → wordBits 64 marks' ≡ runStarts m (wordBits 64 left') → marks' < 2 ^ 64
       → Going m limit b k₀ row bit count left' marks'
-  going-filled left' marks' a e l = record { taken = g .taken; many = g .many; ahead = a; marked = e; low = l }
+  going-filled left' marks' a e l = record { taken = g .taken; many = g .many; window_at = a; marked = e; low = l }
 
   -- a codeword ends in it, and n was found for its number
   module _ (o : Order m) (some : 1 ≤ marks) where
@@ -139,19 +139,19 @@ module _ {m limit : ℕ} {b : List Bool} {k₀ : ℕ} {row : List ℕ} {bit coun
     len = leadingZeros 64 marks
 
     pub going-zero : 1 ≤ len → getD (wordBits 64 left) (len - 1) false ≡ false
-    going-zero = word-zero (g .ahead) m marks (omega arith) (g .marked) some (g .low)
+    going-zero = word-zero (g .window_at) m marks (omega arith) (g .marked) some (g .low)
 
     pub going-within : bit + (len + m) ≤ length b
-    going-within = omega (arith, codeword-within (g .ahead) m marks (omega arith) (g .marked) some (g .low), g .ahead .within)
+    going-within = omega (arith, codeword-within (g .window_at) m marks (omega arith) (g .marked) some (g .low), g .window_at .within)
 
-    module _ (n : ℕ) (is : Judged (first m len + value m 1 (take len (wordBits 64 left))) n) (legal : isNumber limit n ≡ true) (top : limit ≤ largest) where
-      same : (n ≡ first m len + value m 1 (take len (wordBits 64 left))) × (first m len ≤ largest)
+    module _ (n : ℕ) (is : ExactIfLegal (first m len + value m 1 (take len (wordBits 64 left))) n) (legal : isNumber limit n ≡ true) (top : limit ≤ maxNumber) where
+      same : (n ≡ first m len + value m 1 (take len (wordBits 64 left))) × (first m len ≤ maxNumber)
       same =
           let l = number-is limit n legal in
           let x : ℕ = first m len + value m 1 (take len (wordBits 64 left)) in
-          elim (decLe x largest) [
+          elim (decLe x maxNumber) [
             | yes h ↦ (is .0 h, omega arith)
-            | no h ↦ absurd (true≢false (sym (is-number largest n (l .0) (omega (arith, l .1))) ∙ is .1 (omega arith)))
+            | no h ↦ absurd (true≢false (sym (is-number maxNumber n (l .0) (omega (arith, l .1))) ∙ is .1 (omega arith)))
           ]
 
       pub going-short : len + m ≤ 47
@@ -164,12 +164,12 @@ module _ {m limit : ℕ} {b : List Bool} {k₀ : ℕ} {row : List ℕ} {bit coun
           let fits : t ≤ 64 = omega (arith, going-short) in
           record {
             taken =
-                taken-more m limit b k₀ bit row t n pos (g .taken) going-within (word-coded (g .ahead) m marks pos (g .marked) some (g .low))
-                (same .0 ∙ sym (word-number (g .ahead) m marks pos (g .marked) some (g .low))) legal;
+                taken-more m limit b k₀ bit row t n pos (g .taken) going-within (word-coded (g .window_at) m marks pos (g .marked) some (g .low))
+                (same .0 ∙ sym (word-number (g .window_at) m marks pos (g .marked) some (g .low))) legal;
             many = omega (arith, g .many, length-append row (n ∷ []));
-            ahead = ahead-up (g .ahead) t (codeword-within (g .ahead) m marks pos (g .marked) some (g .low));
+            window_at = window-up (g .window_at) t (codeword-within (g .window_at) m marks pos (g .marked) some (g .low));
             marked =
                 words-up 64 marks t fits ∙ ap (up t) (g .marked) ∙ sym (starts-up m t (wordBits 64 left) pos)
-                ∙ ap (starts m) (sym (words-up 64 left t fits));
+                ∙ ap (runStarts m) (sym (words-up 64 left t fits));
             low = omega arith;
           }

@@ -3,19 +3,19 @@ ghost use mathlib.Core.Path.{_≡_};
 ghost use Prim.Native.Nat.{_*_, _≤_, _<_};
 ghost use lib.ListN.{length};
 ghost use Rattle.bits.specs.Bits.{unpack};
-ghost use Rattle.calls.specs.Limits.{largest, longest, mostBytes};
+ghost use Rattle.calls.specs.Limits.{maxNumber, maxCount, maxBytes};
 ghost use Rattle.fibonacci.specs.Tables.{Firsts};
-ghost use Rattle.digit_tables.specs.Values.{byteValues};
-ghost use Rattle.word_decoder.specs.Words.{Summed, Spanned, Stored};
+ghost use Rattle.digit_tables.specs.Leaves.{byteValues};
+ghost use Rattle.word_decoder.specs.Leaves.{Summed, Spanned, StoredRow};
 
 // How far codewords were taken: up to which bit, and how many.
-pub struct Front {
+pub struct Progress {
     pub bit: usize,
     pub count: usize,
 }
 
 // A part of a row that was taken: up to which bit, how many numbers, and their sum.
-struct Part {
+struct Segment {
     bit: usize,
     taken: usize,
     sum: u64,
@@ -23,7 +23,7 @@ struct Part {
 
 // How far codewords were taken, with what is told of a span: the sum of its numbers and of all, and the bit where its first place begins, or the last bit
 // reached where that is before it.
-pub struct Reach {
+pub struct SpanProgress {
     pub bit: usize,
     pub count: usize,
     pub sum: u64,
@@ -41,25 +41,25 @@ fn take_sum(
     limit: u64,
     from: usize,
     most: usize,
-) -> Part
-    requires { ⌜ Firsts order (now firsts) × (now values ≡ byteValues order) × (length (now s) ≤ mostBytes) × (limit ≤ largest) × (most ≤ longest) × (from ≤ 8 * length (now s)) ⌝ }
+) -> Segment
+    requires { ⌜ Firsts order (now firsts) × (now values ≡ byteValues order) × (length (now s) ≤ maxBytes) × (limit ≤ maxNumber) × (most ≤ maxCount) × (from ≤ 8 * length (now s)) ⌝ }
     ensures { λ r. ⌜ Summed order limit (unpack (now (s .entry))) from most r ⌝ }
 {
     let mut bit = from;
     let mut taken: usize = 0;
     let mut sum: u64 = 0;
-    let first = word_windows::ahead(s, order, bit);
+    let first = word_windows::window_at(s, order, bit);
     let mut left = first.left;
     let mut starts = first.starts;
     if starts == 0 {
-        return Part { bit, taken, sum };
+        return Segment { bit, taken, sum };
     }
     while taken < most {
         let len = u64::leading_zeros(starts) as usize;
         let n = word_windows::number(values, firsts, order, left, len);
         let size = len + order;
         if !calls::is_number(n, limit) {
-            return Part { bit, taken, sum };
+            return Segment { bit, taken, sum };
         }
         sum += n;
         taken += 1;
@@ -67,33 +67,33 @@ fn take_sum(
         starts = starts << size;
         left = left << size;
         if starts == 0 {
-            let next = word_windows::ahead(s, order, bit);
+            let next = word_windows::window_at(s, order, bit);
             left = next.left;
             starts = next.starts;
             if starts == 0 {
-                return Part { bit, taken, sum };
+                return Segment { bit, taken, sum };
             }
         }
     }
-    Part { bit, taken, sum }
+    Segment { bit, taken, sum }
 }
 
 // Where the part of a row ends that a place is in: before a span, in it, or behind it.
-fn part_end(from: usize, to: usize, place: usize) -> usize
-    ensures { λ r. ⌜ (r ≤ longest) × (place < longest → place < r) × (place < from → r ≤ from) × (from ≤ place → place < to → r ≤ to) ⌝ }
+fn segment_end(from: usize, to: usize, place: usize) -> usize
+    ensures { λ r. ⌜ (r ≤ maxCount) × (place < maxCount → place < r) × (place < from → r ≤ from) × (from ≤ place → place < to → r ≤ to) ⌝ }
 {
     if place < from {
-        return calls::least(from, calls::LONGEST);
+        return calls::least(from, calls::MAX_COUNT);
     }
     if place < to {
-        calls::least(to, calls::LONGEST)
+        calls::least(to, calls::MAX_COUNT)
     } else {
-        calls::LONGEST
+        calls::MAX_COUNT
     }
 }
 
 // A number or the sum of a part of a row that begins at a place, as far as it counts: all of it in the span, else nothing.
-pub fn counted(sum: u64, from: usize, to: usize, place: usize) -> u64
+pub fn count_in_span(sum: u64, from: usize, to: usize, place: usize) -> u64
     ensures { λ r. ⌜ (from ≤ place → place < to → r ≡ sum) × (place < from → r ≡ 0) × (to ≤ place → r ≡ 0) × (r ≤ sum) ⌝ }
 {
     if place < from {
@@ -103,7 +103,7 @@ pub fn counted(sum: u64, from: usize, to: usize, place: usize) -> u64
 }
 
 // Where a place begins, by the bit after so many numbers, as long as they are not more than stand before the place, and else by what it was.
-pub fn begins(start: usize, place: usize, count: usize, bit: usize) -> usize
+pub fn start_of_place(start: usize, place: usize, count: usize, bit: usize) -> usize
     ensures { λ r. ⌜ (count ≤ place → r ≡ bit) × (place < count → r ≡ start) ⌝ }
 {
     if count <= place { bit } else { start }
@@ -118,8 +118,8 @@ pub fn take_span(
     limit: u64,
     from: usize,
     to: usize,
-) -> Reach
-    requires { ⌜ Firsts order (now firsts) × (length (now s) ≤ mostBytes) × (limit ≤ largest) ⌝ }
+) -> SpanProgress
+    requires { ⌜ Firsts order (now firsts) × (length (now s) ≤ maxBytes) × (limit ≤ maxNumber) ⌝ }
     ensures { λ r. ⌜ Spanned order limit from to (unpack (now (s .entry))) r ⌝ }
 {
     let mut values: [u32; 1536] = [0; 1536];
@@ -129,20 +129,20 @@ pub fn take_span(
     let mut sum: u64 = 0;
     let mut all: u64 = 0;
     let mut start: usize = 0;
-    while count < calls::LONGEST {
-        let until = part_end(from, to, count);
+    while count < calls::MAX_COUNT {
+        let until = segment_end(from, to, count);
         let most = until - count;
         let part = take_sum(&values, firsts, order, s, limit, bit, most);
-        sum += counted(part.sum, from, to, count);
+        sum += count_in_span(part.sum, from, to, count);
         all += part.sum;
         bit = part.bit;
         count += part.taken;
-        start = begins(start, from, count, bit);
+        start = start_of_place(start, from, count, bit);
         if part.taken < most {
             break;
         }
     }
-    Reach {
+    SpanProgress {
         bit,
         count,
         sum,
@@ -153,27 +153,27 @@ pub fn take_span(
 
 // Takes codewords from the start of an encoding on, and stores their numbers, as far as the list has room. The decoder checks the order and the length
 // before, and goes on by bits.
-pub fn take_row(firsts: &[u32; 47], order: usize, s: &[u8], limit: u64, row: &mut [u32]) -> Front
-    requires { ⌜ Firsts order (now firsts) × (length (now s) ≤ mostBytes) × (limit ≤ largest) ⌝ }
-    ensures { λ r. ⌜ Stored order limit (unpack (now (s .entry))) (now (row .entry)) (now (row .exit)) r ⌝ }
+pub fn take_row(firsts: &[u32; 47], order: usize, s: &[u8], limit: u64, row: &mut [u32]) -> Progress
+    requires { ⌜ Firsts order (now firsts) × (length (now s) ≤ maxBytes) × (limit ≤ maxNumber) ⌝ }
+    ensures { λ r. ⌜ StoredRow order limit (unpack (now (s .entry))) (now (row .entry)) (now (row .exit)) r ⌝ }
 {
     let mut values: [u32; 1536] = [0; 1536];
     digit_tables::fill(&mut values, order);
-    let most = calls::least(row.len(), calls::LONGEST);
+    let most = calls::least(row.len(), calls::MAX_COUNT);
     let mut bit: usize = 0;
     let mut count: usize = 0;
-    let first = word_windows::ahead(s, order, bit);
+    let first = word_windows::window_at(s, order, bit);
     let mut left = first.left;
     let mut starts = first.starts;
     if starts == 0 {
-        return Front { bit, count };
+        return Progress { bit, count };
     }
     while count < most {
         let len = u64::leading_zeros(starts) as usize;
         let n = word_windows::number(&values, firsts, order, left, len);
         let size = len + order;
         if !calls::is_number(n, limit) {
-            return Front { bit, count };
+            return Progress { bit, count };
         }
         row[count] = n as u32;
         count += 1;
@@ -181,13 +181,13 @@ pub fn take_row(firsts: &[u32; 47], order: usize, s: &[u8], limit: u64, row: &mu
         starts = starts << size;
         left = left << size;
         if starts == 0 {
-            let next = word_windows::ahead(s, order, bit);
+            let next = word_windows::window_at(s, order, bit);
             left = next.left;
             starts = next.starts;
             if starts == 0 {
-                return Front { bit, count };
+                return Progress { bit, count };
             }
         }
     }
-    Front { bit, count }
+    Progress { bit, count }
 }

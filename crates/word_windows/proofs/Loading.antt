@@ -9,7 +9,7 @@ use lib.Seq.{take-nil, drop-drop}
 use Rattle.bits.specs.Bits.{wordBits, unpack}
 use Rattle.bits.proofs.Bytes.{unpack-take, unpack-drop, unpack-length}
 use Rattle.bits.proofs.Words.{words-zero}
-use Rattle.word_windows.specs.Windows.{Ahead}
+use Rattle.word_windows.specs.Leaves.{WindowAt}
 use Rattle.word_windows.proofs.Starts.{words-up}
 
 pub drop-take : {A : Type 0} (t n : ℕ) (l : List A) → drop t (take n l) ≡ take (n - t) (drop t l)
@@ -21,13 +21,13 @@ drop-take (suc t) (suc n) (x ∷ l) = let e : n - t ≡ suc n - suc t = omega ar
 -- ## A word is filled
 
 -- nothing
-pub ahead-none : (b : List Bool) (k : ℕ) → k ≤ length b → Ahead b k 0
-ahead-none b k h = record { some = 0; others = 64; all = refl; within = omega arith; bits = words-zero 64 }
+pub window-none : (b : List Bool) (k : ℕ) → k ≤ length b → WindowAt b k 0
+window-none b k h = record { some = 0; others = 64; all = refl; within = omega arith; bits = words-zero 64 }
 
 -- eight bytes from the one with bit k, moved up so that bit k is on top
-pub ahead-load : (s : List ℕ) (k w : ℕ) → k / 8 + 8 ≤ length s → wordBits 64 w ≡ unpack (take 8 (drop (k / 8) s))
-    → Ahead (unpack s) k (w * 2 ^ (k % 8) % 2 ^ 64)
-ahead-load s k w h e =
+pub window-load : (s : List ℕ) (k w : ℕ) → k / 8 + 8 ≤ length s → wordBits 64 w ≡ unpack (take 8 (drop (k / 8) s))
+    → WindowAt (unpack s) k (w * 2 ^ (k % 8) % 2 ^ 64)
+window-load s k w h e =
     let o : ℕ = k % 8 in
     let at : 8 * (k / 8) + o ≡ k = omega arith in
     record {

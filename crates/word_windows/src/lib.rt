@@ -5,10 +5,10 @@ ghost use Prim.Native.Nat.{_+_, _-_, _*_, _^_, _≤_, _<_};
 ghost use lib.ListN.{length, take, getD};
 ghost use Rattle.bits.specs.Bits.{wordBits, unpack};
 ghost use Rattle.fibonacci.specs.Code.{value, first};
-ghost use Rattle.calls.specs.Limits.{Order, largest};
+ghost use Rattle.calls.specs.Limits.{Order, maxNumber};
 ghost use Rattle.fibonacci.specs.Tables.{Firsts};
-ghost use Rattle.digit_tables.specs.Values.{byteValues};
-ghost use Rattle.word_windows.specs.Windows.{Judged, starts, Ahead};
+ghost use Rattle.digit_tables.specs.Leaves.{byteValues};
+ghost use Rattle.word_windows.specs.Leaves.{ExactIfLegal, runStarts, WindowAt};
 
 // The next bits of an encoding, the first on top, and where in them as many ones as the order begin.
 pub struct Window {
@@ -17,9 +17,9 @@ pub struct Window {
 }
 
 // Where `order` ones in a row begin in a word: a one at each such place. Ones that begin here and again no further on than they reach are one longer run.
-fn marks(w: u64, order: usize) -> u64
+fn run_starts(w: u64, order: usize) -> u64
     requires { ⌜ Order order ⌝ }
-    ensures { λ r. ⌜ (wordBits 64 r ≡ starts order (wordBits 64 w)) × (r < 2 ^ 64) ⌝ }
+    ensures { λ r. ⌜ (wordBits 64 r ≡ runStarts order (wordBits 64 w)) × (r < 2 ^ 64) ⌝ }
 {
     let two = w & w << 1;
     if order == 2 {
@@ -33,9 +33,9 @@ fn marks(w: u64, order: usize) -> u64
 }
 
 // The window from a bit on; an empty one where fewer than eight bytes are left there. The decoder has checked the order, and stays within the bytes.
-pub fn ahead(s: &[u8], order: usize, bit: usize) -> Window
+pub fn window_at(s: &[u8], order: usize, bit: usize) -> Window
     requires { ⌜ Order order × (bit ≤ 8 * length (now s)) ⌝ }
-    ensures { λ r. ⌜ Ahead (unpack (now (s .entry))) bit (r .left) × (wordBits 64 (r .starts) ≡ starts order (wordBits 64 (r .left))) × (r .starts < 2 ^ 64) ⌝ }
+    ensures { λ r. ⌜ WindowAt (unpack (now (s .entry))) bit (r .left) × (wordBits 64 (r .starts) ≡ runStarts order (wordBits 64 (r .left))) × (r .starts < 2 ^ 64) ⌝ }
 {
     let q = bit >> 3;
     if s.len() < q + 8 {
@@ -44,7 +44,7 @@ pub fn ahead(s: &[u8], order: usize, bit: usize) -> Window
     let left = bits::word(s, q) << (bit & 7);
     Window {
         left,
-        starts: marks(left, order),
+        starts: run_starts(left, order),
     }
 }
 
@@ -52,7 +52,7 @@ pub fn ahead(s: &[u8], order: usize, bit: usize) -> Window
 // decoder has the tables from `digit_tables` and `fibonacci`, and a word that begins with such bits.
 pub fn number(values: &[u32; 1536], firsts: &[u32; 47], order: usize, w: u64, len: usize) -> u64
     requires { ⌜ Firsts order (now firsts) × (now values ≡ byteValues order) × (1 ≤ len → getD (wordBits 64 w) (len - 1) false ≡ false) ⌝ }
-    ensures { λ r. ⌜ Judged (first order len + value order 1 (take len (wordBits 64 w))) r × (r ≤ 7 * largest) ⌝ }
+    ensures { λ r. ⌜ ExactIfLegal (first order len + value order 1 (take len (wordBits 64 w))) r × (r ≤ 7 * maxNumber) ⌝ }
 {
     if len <= 9 {
         return fibonacci::first_number(firsts, order, len)

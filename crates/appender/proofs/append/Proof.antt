@@ -6,7 +6,7 @@ use borrow.Author.Needs.{needs}
 use Rattle.bits.specs.Bits.{wordBits}
 use Rattle.bits.proofs.Put.{put-part}
 use Rattle.bits.proofs.Words.{words-length}
-use Rattle.appender.specs.Plans.{Plans}
+use Rattle.appender.specs.Leaves.{Plans}
 use Rattle.appender.specs.declared.Planned.{Planned}
 use Rattle.appender.specs.declared.Planned.the-variants.{Put, Refused}
 use Rattle.appender.proofs.Appending.{append-refused, append-room, append-put}

@@ -8,13 +8,13 @@ use lib.ListN.{take}
 use borrow.Author.Needs.{needs}
 use borrow.Author.Tests.{not-true, not-false}
 use Rattle.calls.specs.Calls.{Outcome, accepted, refused}
-use Rattle.calls.specs.Limits.{isOrder, largest}
+use Rattle.calls.specs.Limits.{isOrder, maxNumber}
 use Rattle.calls.specs.Reading.{decode}
 use Rattle.calls.proofs.Checks.{order-is, told-accepted, told-refused}
 use Rattle.reading.specs.Reading.{fibonacci}
 use Rattle.reading.proofs.Decoding.{decode-is}
-use Rattle.decoder.specs.declared.Found.{Found}
-use Rattle.decoder.specs.Spans.{found, spanOutcome}
+use Rattle.decoder.specs.declared.Summary.{Summary}
+use Rattle.decoder.specs.Leaves.{summary, spanOutcome}
 use Rattle.appender.proofs.Appending.{append-order, append-past, append-unread, append-read, read-bits, plans-read}
 use Rattle.appender.proofs.plan.Statement.{statement}
 use Rattle.appender.proofs.plan.Tie as tie
@@ -52,26 +52,26 @@ enum-known-scanned-2 c = search needs
 -- the row that was read
 row-of : (c : tie.After-scanned2)
     → let a = c .before .before .before .before .before .before .before .before .args in
-    (row : List ℕ) × (decode (fibonacci (a .order)) largest (take (a .used) (a .buf .now)) ≡ accepted row) × (c .scanned2 .given .0 .0 ≡ found (a .order) 0 0 row)
+    (row : List ℕ) × (decode (fibonacci (a .order)) maxNumber (take (a .used) (a .buf .now)) ≡ accepted row) × (c .scanned2 .given .0 .0 ≡ summary (a .order) 0 0 row)
 row-of c =
     let a = c .before .before .before .before .before .before .before .before .args in
-    subst (λ (k : ℕ). (row : List ℕ) × (decode (fibonacci (a .order)) largest (take k (a .buf .now)) ≡ accepted row) × (c .scanned2 .given .0 .0 ≡ found (a .order) 0 0 row)) (sub-zero (a .used))
-    (told-accepted _ (found (a .order) 0 0) _ (sym (ap spanOutcome (c .scanned2 .given .1)) ∙ c .before .before .sum-span .ensures))
+    subst (λ (k : ℕ). (row : List ℕ) × (decode (fibonacci (a .order)) maxNumber (take k (a .buf .now)) ≡ accepted row) × (c .scanned2 .given .0 .0 ≡ summary (a .order) 0 0 row)) (sub-zero (a .used))
+    (told-accepted _ (summary (a .order) 0 0) _ (sym (ap spanOutcome (c .scanned2 .given .1)) ∙ c .before .before .sum-span .ensures))
 
 plan-after-requires : tie.Need-plan-after-requires
 plan-after-requires c κs =
     let m = c .before in
     let r = row-of m in
     let o = order-is _ (ordered (m .before .before .before .before .before)) in
-    (o, omega (arith, read-bits _ _ (r .0) (omega (arith, o)) (r .1), ap (λ (f : Found). f .bits) (r .2)))
+    (o, omega (arith, read-bits _ _ (r .0) (omega (arith, o)) (r .1), ap (λ (f : Summary). f .bits) (r .2)))
 
 returns-3 : tie.Need-returns-3
 returns-3 c =
     let m = c .before in
     let a = m .before .before .before .before .before .before .before .before .args in
     append-unread (a .order) (a .buf .now) (a .used) (a .n) (ordered (m .before .before .before .before .before)) (omega arith) _
-    (subst (λ (k : ℕ). decode (fibonacci (a .order)) largest (take k (a .buf .now)) ≡ refused (m .scanned .given .0 .0)) (sub-zero (a .used))
-    (told-refused _ (found (a .order) 0 0) _ (sym (ap spanOutcome (m .scanned .given .1)) ∙ m .before .before .sum-span .ensures)))
+    (subst (λ (k : ℕ). decode (fibonacci (a .order)) maxNumber (take k (a .buf .now)) ≡ refused (m .scanned .given .0 .0)) (sub-zero (a .used))
+    (told-refused _ (summary (a .order) 0 0) _ (sym (ap spanOutcome (m .scanned .given .1)) ∙ m .before .before .sum-span .ensures)))
 
 returns-4 : tie.Need-returns-4
 returns-4 c =
@@ -80,8 +80,8 @@ returns-4 c =
     let r = row-of m in
     let o = ordered (m .before .before .before .before .before) in
     plans-read (a .order) (a .buf .now) (r .0) (a .used) (a .n) (c .plan-after .result) (append-read (a .order) (a .buf .now) (a .used) (a .n) o (omega arith) (r .0) (r .1))
-    (decode-is (a .order) largest _ (r .0) (r .1) .is)
-    (c .plan-after .ensures (r .0) (sym (ap (λ (f : Found). f .count) (r .2))) (sym (ap (λ (f : Found). f .bits) (r .2))))
+    (decode-is (a .order) maxNumber _ (r .0) (r .1) .is)
+    (c .plan-after .ensures (r .0) (sym (ap (λ (f : Summary). f .count) (r .2))) (sym (ap (λ (f : Summary). f .bits) (r .2))))
 
 pub plan-spec : {M : Type 1} → statement M
 plan-spec =

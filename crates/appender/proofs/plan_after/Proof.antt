@@ -7,7 +7,7 @@ use lib.ListN.{length}
 use borrow.Author.Needs.{needs}
 use borrow.Author.Tests.{not-true, not-false}
 use Rattle.calls.specs.Calls.{accepted}
-use Rattle.calls.specs.Limits.{isNumber, largest}
+use Rattle.calls.specs.Limits.{isNumber, maxNumber}
 use Rattle.calls.proofs.Checks.{number-is}
 use Rattle.appender.proofs.Appending.{longer, extend-number, extend-full, extend-room, extend-fits}
 use Rattle.appender.proofs.plan_after.Statement.{statement}
@@ -19,7 +19,7 @@ is-number-requires c κs = search needs
 returns : tie.Need-returns
 returns c = λ row l b. extend-number _ _ row _ (sym (c .before .is-number .ensures) ∙ not-true _ (c .if1 .taken))
 
-legal : (c : tie.Else1) → isNumber largest (c .before .before .args .n) ≡ true
+legal : (c : tie.Else1) → isNumber maxNumber (c .before .before .args .n) ≡ true
 legal c = sym (c .before .is-number .ensures) ∙ not-false _ (c .if1 .left)
 
 returns-2 : tie.Need-returns-2
@@ -36,7 +36,7 @@ low-digits-requires c κs = search needs
 
 coded-requires : tie.Need-coded-requires
 coded-requires c κs =
-    let n = number-is largest _ (legal (c .before .before .before .before .before .before .before)) in
+    let n = number-is maxNumber _ (legal (c .before .before .before .before .before .before .before)) in
     ((c .before .before .before .before .before .positions .ensures, c .before .before .before .before .first-numbers .ensures, c .before .before .before .low-digits .ensures), n .0, n .1)
 
 add-bytes : tie.Need-add-bytes

@@ -4,9 +4,9 @@ use native.Mathlib.Omega.{arith}
 use native.Mathlib.Numerals.{add-one}
 use borrow.Author.Needs.{needs}
 use Rattle.fibonacci.specs.Code.{ones, value, first}
-use Rattle.calls.specs.Limits.{largest}
+use Rattle.calls.specs.Limits.{maxNumber}
 use Rattle.fibonacci.proofs.Numbers.{first-pos, first-rises, value-ones}
-use Rattle.fibonacci.proofs.Lookup.{bounded-is, bounded-none, bounded-some}
+use Rattle.fibonacci.proofs.Lookup.{number-kept, number-none, number-some}
 use Rattle.bit_decoder.proofs.ones_value.Statement.{statement}
 use Rattle.bit_decoder.proofs.ones_value.Tie as tie
 
@@ -29,7 +29,7 @@ first-number-requires c κs = search needs
 returns-2 : tie.Need-returns-2
 returns-2 c =
     let a = c .before .before .before .args in
-    let none = bounded-none _ (first-pos (a .order) (a .len + a .run + 1)) (omega arith) in
+    let none = number-none _ (first-pos (a .order) (a .len + a .run + 1)) (omega arith) in
     (λ h. absurd (omega (arith, none)), omega arith)
 
 add-first-number-3 : tie.Need-add-first-number-3
@@ -42,13 +42,13 @@ first-number-requires-2 c κs = search needs
 differ : (c : tie.After-first-number2)
     → let a = c .before .before .before .before .args in
     (c .first-number2 .result + value (a .order) (a .len + 1) (ones (a .run)) ≡ c .before .before .first-number .result)
-    × (c .before .before .first-number .result ≤ largest)
+    × (c .before .before .first-number .result ≤ maxNumber)
 differ c =
     let a = c .before .before .before .before .args in
-    let far = bounded-some (first (a .order) (a .len + a .run + 1)) (λ e. omega arith) in
-    let near : first (a .order) (a .len + 1) ≤ largest = omega (arith, far, first-rises (a .order) {j = a .len + 1} {k = a .len + a .run + 1} (omega arith)) in
+    let far = number-some (first (a .order) (a .len + a .run + 1)) (λ e. omega arith) in
+    let near : first (a .order) (a .len + 1) ≤ maxNumber = omega (arith, far, first-rises (a .order) {j = a .len + 1} {k = a .len + a .run + 1} (omega arith)) in
     let sum = rw (← add-one (a .len), ← add-one (a .len + a .run)) at (value-ones (a .order) (a .len) (a .run)) in
-    (omega (arith, bounded-is _ far, bounded-is _ near, sum), omega (arith, bounded-is _ far, far))
+    (omega (arith, number-kept _ far, number-kept _ near, sum), omega (arith, number-kept _ far, far))
 
 sub-result : tie.Need-sub-result
 sub-result c = omega (arith, differ c)

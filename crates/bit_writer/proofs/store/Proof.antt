@@ -5,7 +5,7 @@ use native.Mathlib.Omega.{arith}
 use lib.ListN.{length, take, drop}
 use lib.Seq.{take-all}
 use borrow.Author.Needs.{needs}
-use Rattle.bits.proofs.Lists.{copy-more}
+use Rattle.lists.proofs.Lists.{copy-more}
 use Rattle.bits.proofs.Put.{wordBytes, word-byte, word-length}
 use Rattle.bit_writer.proofs.store.Statement.{statement}
 use Rattle.bit_writer.proofs.store.Tie as tie

@@ -6,7 +6,7 @@ use native.Mathlib.Omega.{arith}
 use lib.ListN.{getD}
 use borrow.Author.Needs.{needs}
 use Rattle.fibonacci.specs.Code.{F}
-use Rattle.byte_table.specs.Table.{F2, moved}
+use Rattle.byte_table.specs.Leaves.{F2, moved}
 use Rattle.byte_table.proofs.Moving.{position-at}
 use Rattle.byte_table.proofs.moved.Statement.{statement}
 use Rattle.byte_table.proofs.moved.Tie as tie

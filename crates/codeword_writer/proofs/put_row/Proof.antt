@@ -9,7 +9,7 @@ use Rattle.bits.specs.Bits.{wordBits, unpack, byteCount, putTo, putAt}
 use Rattle.bits.proofs.Words.{words-length}
 use Rattle.bits.proofs.Put.{put-within, put-part}
 use Rattle.calls.proofs.Checks.{number-is, legal-at}
-use Rattle.calls.specs.Limits.{largest, longest}
+use Rattle.calls.specs.Limits.{maxNumber, maxCount}
 use Rattle.codeword_writer.proofs.Rows.{bits-few, Put, put-none, put-room, put-next, put-end}
 use Rattle.codeword_writer.proofs.put_row.Statement.{statement}
 use Rattle.codeword_writer.proofs.put_row.Tie as tie
@@ -25,7 +25,7 @@ abbrev μ-loop : tie.MeasureT-loop
 module _ (c : tie.After-coded Inv-loop μ-loop) where
   -- it stays within the encoding
   room : let bytes = c .before .before .before .before .before .before .before .args .bytes in
-      (c .before .before .before .before .loop .at + c .coded .result .len ≤ 8 * bytes) × (8 * bytes ≤ 47 * longest)
+      (c .before .before .before .before .loop .at + c .coded .result .len ≤ 8 * bytes) × (8 * bytes ≤ 47 * maxCount)
   room =
       let a = c .before .before .before .before .before .before .before .args in
       let p = c .before .before .before .before .before .before .before .pre in
@@ -70,7 +70,7 @@ coded-requires c κs =
     let a = c .before .before .before .before .before .before .args in
     let p = c .before .before .before .before .before .before .pre in
     let n = c .wide in
-    let legal = number-is largest (n .result) (rw (n .ensures) (legal-at largest (a .row .now) (c .before .before .before .loop .i) (p .2) (omega arith))) in
+    let legal = number-is maxNumber (n .result) (rw (n .ensures) (legal-at maxNumber (a .row .now) (c .before .before .before .loop .i) (p .2) (omega arith))) in
     (p .0, legal .0, legal .1)
 
 add-if1 : tie.Need-add-if1 Inv-loop μ-loop

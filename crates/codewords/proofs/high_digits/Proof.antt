@@ -3,14 +3,14 @@ use Prim.Native.Nat.{ℕ, _+_, _-_, _*_, _%_, _^_, _≤_, min}
 use native.Mathlib.Omega.{arith}
 use lib.Pow.{pow-pos, pow-mono}
 use borrow.Author.Needs.{needs}
-use Rattle.codewords.specs.Digits.{Begun}
-use Rattle.codewords.proofs.Codewords.{stem-long, shifted-one, position-legal, begun-start, begun-more}
+use Rattle.codewords.specs.Leaves.{HighDigits}
+use Rattle.codewords.proofs.Codewords.{body-long, shifted-one, position-legal, high-start, high-more}
 use Rattle.codewords.proofs.high_digits.Statement.{statement}
 use Rattle.codewords.proofs.high_digits.Tie as tie
 
 abbrev Inv-loop : tie.InvT-loop
 Inv-loop positions firsts order n d low w₀ above₀ j₀ w above j =
-    (j ≤ d) × (min d low ≤ j) × (d + order ≤ 47) × (2 ^ 32 ≤ above) × (above ≤ 2 ^ 32 + n) × Begun order n d j (above - 2 ^ 32) w
+    (j ≤ d) × (min d low ≤ j) × (d + order ≤ 47) × (2 ^ 32 ≤ above) × (above ≤ 2 ^ 32 + n) × HighDigits order n d j (above - 2 ^ 32) w
 
 abbrev μ-loop : tie.MeasureT-loop
 μ-loop positions firsts order n d low w₀ above₀ j₀ w above j = j
@@ -28,11 +28,11 @@ first-number-requires c κs = search needs
 start : (c : tie.After-first-number Inv-loop μ-loop)
     → let a = c .before .args in
     let x = c .first-number .result in
-    (x ≤ a .n) × Begun (a .order) (a .n) (a .d) (a .d) (a .n - x) (1 * 2 ^ a .order % 2 ^ 64 - 1)
+    (x ≤ a .n) × HighDigits (a .order) (a .n) (a .d) (a .d) (a .n - x) (1 * 2 ^ a .order % 2 ^ 64 - 1)
 start c =
     let a = c .before .args in
     let p = c .before .pre in
-    begun-start (a .order) (a .n) (a .d) (p .0 .0) (p .2) (p .3) (p .4) (c .first-number .result) (c .first-number .ensures)
+    high-start (a .order) (a .n) (a .d) (p .0 .0) (p .2) (p .3) (p .4) (c .first-number .result) (c .first-number .ensures)
 
 sub-above : tie.Need-sub-above Inv-loop μ-loop
 sub-above c = start c .0
@@ -48,7 +48,7 @@ loop-holds c =
     let same : left + 2 ^ 32 - 2 ^ 32 ≡ left = omega arith in (
       omega arith,
       omega arith,
-      omega (arith, stem-long (a .order) (a .n) (a .d) (p .0 .0) (p .2) (p .3) (p .4)),
+      omega (arith, body-long (a .order) (a .n) (a .d) (p .0 .0) (p .2) (p .3) (p .4)),
       omega arith,
       omega arith,
       rw same (start c .1),
@@ -78,11 +78,11 @@ step : (c : tie.After-digit Inv-loop μ-loop)
     let x = c .digit .result in
     let f = c .before .position .result in
     (x * f ≤ l .above - 2 ^ 32)
-    × Begun (a .order) (a .n) (a .d) (l .j - 1) (l .above - 2 ^ 32 - x * f) (l .w + x * 2 ^ (a .order + a .d - l .j) % 2 ^ 64)
+    × HighDigits (a .order) (a .n) (a .d) (l .j - 1) (l .above - 2 ^ 32 - x * f) (l .w + x * 2 ^ (a .order + a .d - l .j) % 2 ^ 64)
 step c =
     let a = c .before .before .before .before .before .args in
     let l = c .before .before .before .loop in
-    begun-more (a .order) (a .n) (a .d) (l .j) (l .above - 2 ^ 32) (l .w) (c .before .position .result) (omega arith) (omega arith)
+    high-more (a .order) (a .n) (a .d) (l .j) (l .above - 2 ^ 32) (l .w) (c .before .position .result) (omega arith) (omega arith)
     (l .inv .0) (c .before .position .ensures) (l .inv .5) (c .digit .result) (l .inv .2) (c .digit .ensures .0) (c .digit .ensures .1)
 
 mul-above : tie.Need-mul-above Inv-loop μ-loop
@@ -128,7 +128,7 @@ returns c =
     let a = c .before .before .before .args in
     let l = c .before .loop in
     let end : l .j ≡ min (a .d) (a .low) = omega arith in
-    subst (λ (j : ℕ). Begun (a .order) (a .n) (a .d) j (l .above - 2 ^ 32) (l .w)) end (l .inv .5)
+    subst (λ (j : ℕ). HighDigits (a .order) (a .n) (a .d) j (l .above - 2 ^ 32) (l .w)) end (l .inv .5)
 
 pub high-digits-spec : {M : Type 1} → statement M
 high-digits-spec =

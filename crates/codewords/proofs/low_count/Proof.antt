@@ -1,5 +1,5 @@
 use borrow.Author.Tests.{eq-eqb, ne-eqb}
-use Rattle.codewords.specs.Digits.{lowCount}
+use Rattle.codewords.specs.Leaves.{lowCount}
 use Rattle.codewords.proofs.low_count.Statement.{statement}
 use Rattle.codewords.proofs.low_count.Tie as tie
 

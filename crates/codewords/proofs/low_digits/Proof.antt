@@ -2,7 +2,7 @@
 use borrow.Author.Needs.{needs}
 use Rattle.bits.specs.Bits.{wordOf}
 use Rattle.fibonacci.specs.Code.{past, F, digits}
-use Rattle.codewords.specs.Digits.{lowCount, lowWord, lowDigits}
+use Rattle.codewords.specs.Leaves.{lowCount, lowWord, lowDigits}
 use Rattle.codewords.proofs.Codewords.{low-row}
 use Rattle.codewords.proofs.low_digits.Statement.{statement}
 use Rattle.codewords.proofs.low_digits.Tie as tie

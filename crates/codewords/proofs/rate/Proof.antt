@@ -1,5 +1,5 @@
 use borrow.Author.Tests.{eq-eqb, ne-eqb}
-use Rattle.codewords.specs.Digits.{rate}
+use Rattle.codewords.specs.Leaves.{rate}
 use Rattle.codewords.proofs.rate.Statement.{statement}
 use Rattle.codewords.proofs.rate.Tie as tie
 

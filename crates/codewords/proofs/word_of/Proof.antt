@@ -7,13 +7,13 @@ use lib.Pow.{pow-mono}
 use borrow.Author.Needs.{needs}
 use Rattle.bits.specs.Bits.{wordBits}
 use Rattle.fibonacci.specs.Code.{codeword}
-use Rattle.codewords.specs.Digits.{lowWord}
-use Rattle.codewords.proofs.Codewords.{stem-long, low-at, low-few, low-within, begun-end}
+use Rattle.codewords.specs.Leaves.{lowWord}
+use Rattle.codewords.proofs.Codewords.{body-long, low-at, low-few, low-within, high-end}
 use Rattle.codewords.proofs.word_of.Statement.{statement}
 use Rattle.codewords.proofs.word_of.Tie as tie
 
 long : (c : tie.Start) → c .args .d + c .args .order ≤ 47
-long c = let p = c .pre in stem-long _ _ _ (p .0 .0 .0) (p .1) (p .2) (p .3) .1
+long c = let p = c .pre in body-long _ _ _ (p .0 .0 .0) (p .1) (p .2) (p .3) .1
 
 few : (c : tie.After-low-count) → c .low-count .result ≤ 8
 few c = omega (arith, c .low-count .ensures, low-few (c .before .args .order) (c .before .pre .0 .0 .0))
@@ -42,7 +42,7 @@ made : (c : tie.After-wide)
 made c =
     let z = c .before .before .before .before in
     let h = c .before .before .high-digits in
-    begun-end (z .args .order) (z .args .n) (z .args .d) (c .before .before .before .low-count .result) (h .result .left) (h .result .word) (z .pre .0 .0 .0) (long z)
+    high-end (z .args .order) (z .args .n) (z .args .d) (c .before .before .before .low-count .result) (h .result .left) (h .result .word) (z .pre .0 .0 .0) (long z)
     (few (c .before .before .before)) (h .ensures) (c .wide .result) (looked c)
 
 low-count-requires : tie.Need-low-count-requires

@@ -21,11 +21,11 @@ mul-v c =
     let l = c .before .loop in
     omega (arith, counted-few (c .before .before .before .args .text .now) (l .i) (l .v) (l .inv .2) (omega arith))
 
-shared-slice-read-worth : tie.Need-shared-slice-read-worth Inv-loop μ-loop
-shared-slice-read-worth c = search needs
+shared-slice-read-digit-value : tie.Need-shared-slice-read-digit-value Inv-loop μ-loop
+shared-slice-read-digit-value c = search needs
 
-worth-requires : tie.Need-worth-requires Inv-loop μ-loop
-worth-requires c κs = search needs
+digit-value-requires : tie.Need-digit-value-requires Inv-loop μ-loop
+digit-value-requires c κs = search needs
 
 add-v : tie.Need-add-v Inv-loop μ-loop
 add-v c =
@@ -41,7 +41,7 @@ loop-less c = search needs
 loop-again : tie.Need-loop-again Inv-loop μ-loop
 loop-again c =
     let l = c .before .before .before .loop in
-    let w = c .worth in
+    let w = c .digit-value in
     (omega arith, refl, counted-more (c .before .before .before .before .before .args .text .now) (l .i) (l .v) (l .inv .2) (w .result) (omega arith) (w .ensures .0) (w .ensures .1))
 
 returns : tie.Need-returns Inv-loop μ-loop
@@ -57,8 +57,8 @@ decimal-spec =
     μ-loop
     loop-holds
     mul-v
-    shared-slice-read-worth
-    worth-requires
+    shared-slice-read-digit-value
+    digit-value-requires
     add-v
     add-i
     loop-less

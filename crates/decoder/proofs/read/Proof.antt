@@ -3,7 +3,7 @@ use mathlib.Core.Bool.{true}
 use native.Mathlib.Omega.{arith}
 use borrow.Author.Needs.{needs}
 use borrow.Author.Tests.{not-true, not-false}
-use Rattle.calls.specs.Limits.{isOrder, largest}
+use Rattle.calls.specs.Limits.{isOrder, maxNumber}
 use Rattle.calls.specs.Reading.{decode}
 use Rattle.calls.proofs.Checks.{order-is}
 use Rattle.reading.specs.Reading.{fibonacci}
@@ -35,7 +35,7 @@ deliver-requires : tie.Need-deliver-requires
 deliver-requires c κs =
     let r = c .before .before .before in
     let a = r .before .before .before .before .before .before .before .args in
-    holds-row (decode (fibonacci (a .order)) largest (a .s .now)) (r .store-row .last .1 .1 .1 .0) (r .store-row .result) (r .store-row .ensures .0) (r .store-row .ensures .1)
+    holds-row (decode (fibonacci (a .order)) maxNumber (a .s .now)) (r .store-row .last .1 .1 .1 .0) (r .store-row .result) (r .store-row .ensures .0) (r .store-row .ensures .1)
 
 same-length : tie.Need-same-length
 same-length c = search needs
@@ -59,7 +59,7 @@ deliver-requires-2 : tie.Need-deliver-requires-2
 deliver-requires-2 c κs =
     let r = c .before .before .before in
     let a = r .before .before .before .before .before .before .before .args in
-    holds-row (decode (fibonacci (a .order)) largest (a .s .now)) (r .store-row2 .last .1 .1 .1 .0) (r .store-row2 .result) (r .store-row2 .ensures .0) (r .store-row2 .ensures .1)
+    holds-row (decode (fibonacci (a .order)) maxNumber (a .s .now)) (r .store-row2 .last .1 .1 .1 .0) (r .store-row2 .result) (r .store-row2 .ensures .0) (r .store-row2 .ensures .1)
 
 same-length-2 : tie.Need-same-length-2
 same-length-2 c = search needs

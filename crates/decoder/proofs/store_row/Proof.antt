@@ -9,21 +9,21 @@ use borrow.Author.Needs.{needs}
 use borrow.Author.Tests.{ltb-true, ltb-false}
 use Rattle.bits.specs.Bits.{unpack}
 use Rattle.bits.proofs.Bytes.{unpack-length}
-use Rattle.calls.specs.Limits.{longest, mostBytes}
+use Rattle.calls.specs.Limits.{maxCount, maxBytes}
 use Rattle.reading.proofs.Decoding.{decode-long, decode-contents}
-use Rattle.word_decoder.specs.Words.{Begun}
-use Rattle.decoder.specs.Spans.{Stepped}
+use Rattle.word_decoder.specs.Leaves.{DecodedPrefix}
+use Rattle.decoder.specs.Leaves.{Stepped}
 use Rattle.decoder.specs.declared.Step.{Step}
 use Rattle.decoder.specs.declared.Step.the-variants.{Number, End, Refused}
-use Rattle.decoder.proofs.Steps.{begun-few, last-legal}
+use Rattle.decoder.proofs.Steps.{decoded-few, last-legal}
 use Rattle.decoder.proofs.store_row.Statement.{statement}
 use Rattle.decoder.proofs.store_row.Tie as tie
 
 abbrev Inv-loop : tie.InvT-loop
-Inv-loop order s limit row₀ firsts bit₀ count₀ row bit count = Begun order limit (unpack s) bit count (take count row) × (length row ≡ length row₀)
+Inv-loop order s limit row₀ firsts bit₀ count₀ row bit count = DecodedPrefix order limit (unpack s) bit count (take count row) × (length row ≡ length row₀)
 
 abbrev μ-loop : tie.MeasureT-loop
-μ-loop order s limit row₀ firsts bit₀ count₀ row bit count = longest - count
+μ-loop order s limit row₀ firsts bit₀ count₀ row bit count = maxCount - count
 
 abbrev start : tie.At-loop Inv-loop μ-loop → tie.Start Inv-loop μ-loop
 start l = l .before .before .before .before .before .before .before .before .before .before .before
@@ -33,8 +33,8 @@ sized : (l : tie.At-loop Inv-loop μ-loop) → length (l .loop .row) ≡ length 
 sized l = l .loop .inv .1 ∙ l .before .before .before .store-words .ensures .1
 
 -- the bytes are not too many
-short : (c : tie.Else1 Inv-loop μ-loop) → length (c .before .before .before .before .args .s .now) ≤ mostBytes
-short c = ltb-false mostBytes _ (sym (c .before .too-long .ensures) ∙ c .if1 .left)
+short : (c : tie.Else1 Inv-loop μ-loop) → length (c .before .before .before .before .args .s .now) ≤ maxBytes
+short c = ltb-false maxBytes _ (sym (c .before .too-long .ensures) ∙ c .if1 .left)
 
 -- where a step leads
 led : (c : tie.After-next-number Inv-loop μ-loop)
@@ -54,12 +54,12 @@ module _ (c : tie.After-next Inv-loop μ-loop) where
   abbrev n : ℕ
   n = c .next .given .0 .0
 
-  more : (at .loop .count < longest)
-      × Begun (start at .args .order) (start at .args .limit) (unpack (start at .args .s .now)) (c .next .given .0 .1 .0) (at .loop .count + 1) (take (at .loop .count) (at .loop .row) ++ (n ∷ []))
+  more : (at .loop .count < maxCount)
+      × DecodedPrefix (start at .args .order) (start at .args .limit) (unpack (start at .args .s .now)) (c .next .given .0 .1 .0) (at .loop .count + 1) (take (at .loop .count) (at .loop .row) ++ (n ∷ []))
   more = led (c .before .before) (Number n (c .next .given .0 .1 .0)) (c .next .given .1)
 
   room : at .loop .count < length (at .loop .row)
-  room = omega (arith, more .0, begun-few (start at .args .s .now) (start at .pre .0 .0) (more .1), start at .pre .2, sized at)
+  room = omega (arith, more .0, decoded-few (start at .args .s .now) (start at .pre .0 .0) (more .1), start at .pre .2, sized at)
 
 returns : tie.Need-returns Inv-loop μ-loop
 returns c =

@@ -1,11 +1,11 @@
 use mathlib.Core.Path.{refl}
 use borrow.Author.Needs.{needs}
-use Rattle.word_decoder.proofs.Spans.{begun-none}
+use Rattle.word_decoder.proofs.Spans.{decoded-none}
 use Rattle.decoder.proofs.store_words.Statement.{statement}
 use Rattle.decoder.proofs.store_words.Tie as tie
 
 returns : tie.Need-returns
-returns c = (begun-none _ _ _, refl)
+returns c = (decoded-none _ _ _, refl)
 
 take-row-requires : tie.Need-take-row-requires
 take-row-requires c κs = search needs

@@ -3,7 +3,7 @@ use mathlib.Core.Path.{_≡_, ap}
 use native.Mathlib.Omega.{arith}
 use Rattle.bits.specs.Bits.{bitOf, wordBits}
 use Rattle.fibonacci.specs.Code.{past, F, value}
-use Rattle.digit_tables.specs.Values.{byteValue, byteValues}
+use Rattle.digit_tables.specs.Leaves.{byteValue, byteValues}
 use Rattle.digit_tables.proofs.fill.Statement.{statement}
 use Rattle.digit_tables.proofs.fill.Tie as tie
 

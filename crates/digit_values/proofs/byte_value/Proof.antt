@@ -1,6 +1,6 @@
 use native.Mathlib.Omega.{arith}
 use borrow.Author.Needs.{needs}
-use Rattle.digit_values.proofs.Bytes.{capped-is, capped-first}
+use Rattle.digit_values.proofs.Bytes.{saturated-is, saturated-first}
 use Rattle.digit_values.proofs.byte_value.Statement.{statement}
 use Rattle.digit_values.proofs.byte_value.Tie as tie
 
@@ -15,8 +15,8 @@ returns c =
     let z = c .before .before in
     let x = c .before .masked in
     let r = c .entry in (
-      capped-first (z .args .w) (z .args .len) (omega arith) 8 (omega arith) (omega arith) (z .pre .3) (z .args .order) (x .result) (r .result) (x .ensures)
-          (capped-is _ _ (r .ensures .0)),
+      saturated-first (z .args .w) (z .args .len) (omega arith) 8 (omega arith) (omega arith) (z .pre .3) (z .args .order) (x .result) (r .result) (x .ensures)
+          (saturated-is _ _ (r .ensures .0)),
       omega arith,
     )
 

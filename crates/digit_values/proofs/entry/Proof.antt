@@ -8,7 +8,7 @@ use borrow.Author.Needs.{needs}
 use Rattle.bits.specs.Bits.{wordBits}
 use Rattle.bits.proofs.Words.{words-mod}
 use Rattle.fibonacci.specs.Code.{value}
-use Rattle.calls.specs.Limits.{largest}
+use Rattle.calls.specs.Limits.{maxNumber}
 use Rattle.digit_values.proofs.Bytes.{entry-at}
 use Rattle.digit_values.proofs.entry.Statement.{statement}
 use Rattle.digit_values.proofs.entry.Tie as tie
@@ -43,9 +43,9 @@ returns c =
     let m = z .args .order in
     let j : ℕ = 8 * z .args .c + 1 in
     let y : ℕ = z .args .x / 2 ^ (56 - 8 * z .args .c) in
-    let e : c .wide .result ≡ min largest (value m j (wordBits 8 y)) =
+    let e : c .wide .result ≡ min maxNumber (value m j (wordBits 8 y)) =
     c .wide .ensures ∙ ap (λ (l : List ℕ). getD l (256 * z .args .c + y % 256) 0) (z .pre .0)
-    ∙ entry-at m (z .args .c) (y % 256) (z .pre .1) (omega arith) ∙ ap (λ (b : List Bool). min largest (value m j b)) (words-mod 8 8 y (omega arith)) in
+    ∙ entry-at m (z .args .c) (y % 256) (z .pre .1) (omega arith) ∙ ap (λ (b : List Bool). min maxNumber (value m j b)) (words-mod 8 8 y (omega arith)) in
     (e, omega arith)
 
 pub entry-spec : {M : Type 1} → statement M

@@ -1,6 +1,6 @@
 use native.Mathlib.Omega.{arith}
 use borrow.Author.Needs.{needs}
-use Rattle.digit_values.proofs.Bytes.{capped-is, capped-byte}
+use Rattle.digit_values.proofs.Bytes.{saturated-is, saturated-byte}
 use Rattle.digit_values.proofs.first_two.Statement.{statement}
 use Rattle.digit_values.proofs.first_two.Tie as tie
 
@@ -18,7 +18,7 @@ returns c =
     let z = c .before .before in
     let one = c .before .entry in
     let two = c .entry2 in (
-      capped-byte (z .args .order) 1 8 (z .args .x) 48 (one .result) (two .result) (capped-is _ _ (one .ensures .0)) (two .ensures .0),
+      saturated-byte (z .args .order) 1 8 (z .args .x) 48 (one .result) (two .result) (saturated-is _ _ (one .ensures .0)) (two .ensures .0),
       omega arith,
     )
 

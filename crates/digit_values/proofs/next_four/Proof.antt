@@ -1,7 +1,7 @@
 use Prim.Native.Nat.{_+_}
 use native.Mathlib.Omega.{arith}
 use borrow.Author.Needs.{needs}
-use Rattle.digit_values.proofs.Bytes.{capped-is, capped-byte}
+use Rattle.digit_values.proofs.Bytes.{saturated-is, saturated-byte}
 use Rattle.digit_values.proofs.next_four.Statement.{statement}
 use Rattle.digit_values.proofs.next_four.Tie as tie
 
@@ -35,10 +35,10 @@ returns c =
     let two = c .before .before .entry2 in
     let three = c .before .entry3 in
     let four = c .entry4 in
-    let a = capped-is _ _ (one .ensures .0) in
-    let b = capped-byte m 17 8 x 32 (one .result) (two .result) a (two .ensures .0) in
-    let d = capped-byte m 17 16 x 24 (one .result + two .result) (three .result) b (three .ensures .0) in
-    (capped-byte m 17 24 x 16 (one .result + two .result + three .result) (four .result) d (four .ensures .0), omega arith)
+    let a = saturated-is _ _ (one .ensures .0) in
+    let b = saturated-byte m 17 8 x 32 (one .result) (two .result) a (two .ensures .0) in
+    let d = saturated-byte m 17 16 x 24 (one .result + two .result) (three .result) b (three .ensures .0) in
+    (saturated-byte m 17 24 x 16 (one .result + two .result + three .result) (four .result) d (four .ensures .0), omega arith)
 
 pub next-four-spec : {M : Type 1} → statement M
 next-four-spec =

@@ -1,7 +1,7 @@
 use Prim.Native.Nat.{_+_}
 use native.Mathlib.Omega.{arith}
 use borrow.Author.Needs.{needs}
-use Rattle.digit_values.proofs.Bytes.{capped-join, capped-first}
+use Rattle.digit_values.proofs.Bytes.{saturated-join, saturated-first}
 use Rattle.digit_values.proofs.value.Statement.{statement}
 use Rattle.digit_values.proofs.value.Tie as tie
 
@@ -16,7 +16,7 @@ returns c =
     let z = c .before .before .before in
     let x = c .before .before .masked in
     let r = c .before .first-two in (
-      capped-first (z .args .w) (z .args .len) (omega arith) 16 (omega arith) (omega arith) (z .pre .3) (z .args .order) (x .result) (r .result) (x .ensures)
+      saturated-first (z .args .w) (z .args .len) (omega arith) 16 (omega arith) (omega arith) (z .pre .3) (z .args .order) (x .result) (r .result) (x .ensures)
           (r .ensures .0),
       omega arith,
     )
@@ -33,8 +33,8 @@ returns-2 c =
     let x = c .before .before .before .masked in
     let r = c .before .before .first-two in
     let s = c .next-four in (
-      capped-first (z .args .w) (z .args .len) (omega arith) 48 (omega arith) (omega arith) (z .pre .3) (z .args .order) (x .result) (r .result + s .result)
-          (x .ensures) (capped-join (z .args .order) 1 16 32 (x .result) 16 (r .result) (s .result) (r .ensures .0) (s .ensures .0)),
+      saturated-first (z .args .w) (z .args .len) (omega arith) 48 (omega arith) (omega arith) (z .pre .3) (z .args .order) (x .result) (r .result + s .result)
+          (x .ensures) (saturated-join (z .args .order) 1 16 32 (x .result) 16 (r .result) (s .result) (r .ensures .0) (s .ensures .0)),
       omega arith,
     )
 

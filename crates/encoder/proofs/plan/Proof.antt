@@ -7,7 +7,7 @@ use borrow.Author.Needs.{needs}
 use Rattle.fibonacci.specs.Encoding.{rowBits}
 use Rattle.calls.specs.declared.Refusal.the-variants.{BadNumber}
 use Rattle.calls.specs.Calls.{accepted, countOutcome}
-use Rattle.calls.specs.Limits.{isOrder, largest, longest, checkEach}
+use Rattle.calls.specs.Limits.{isOrder, maxNumber, maxCount, checkEach}
 use Rattle.calls.proofs.Checks.{is-order}
 use Rattle.encoder.proofs.Writing.{write-count, write-number, bits-most, write-room, write-done}
 use Rattle.encoder.proofs.plan.Statement.{statement}
@@ -32,12 +32,12 @@ enum-known-measured-2 c = search needs
 abbrev start : tie.After-measured2 → tie.Start
 start c = c .before .before .before .before .before
 
-few : (c : tie.After-measured2) → length (start c .args .row .now) ≤ longest
+few : (c : tie.After-measured2) → length (start c .args .row .now) ≤ maxCount
 few c = omega arith
 
 got : (c : tie.After-measured2)
     → let a = start c .args in
-    accepted (c .measured2 .given .0 .0) ≡ checkEach BadNumber largest 0 (a .row .now) (accepted (length (rowBits (a .order) (a .row .now))))
+    accepted (c .measured2 .given .0 .0) ≡ checkEach BadNumber maxNumber 0 (a .row .now) (accepted (length (rowBits (a .order) (a .row .now))))
 got c = sym (ap countOutcome (c .measured2 .given .1)) ∙ c .before .before .measure .ensures
 
 add-bytes : tie.Need-add-bytes

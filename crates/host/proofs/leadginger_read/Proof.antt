@@ -2,7 +2,7 @@ use mathlib.Core.Path.{sym, ap, _∙_, subst}
 use Prim.Native.Nat.{_≤_}
 use native.Mathlib.Omega.{arith}
 use Rattle.calls.specs.Calls.{countOutcome}
-use Rattle.calls.specs.Limits.{longest}
+use Rattle.calls.specs.Limits.{maxCount}
 use Rattle.host.specs.Host.{hostNumber}
 use Rattle.host.proofs.Fitting.{Fits, bytes-fit}
 use borrow.Author.Needs.{needs}
@@ -10,7 +10,7 @@ use Rattle.host.proofs.leadginger_read.Statement.{statement}
 use Rattle.host.proofs.leadginger_read.Tie as tie
 
 -- what was answered fits
-fits : (c : tie.After-read-bytes) → Fits (λ n. n ≤ longest) (countOutcome (c .read-bytes .result))
+fits : (c : tie.After-read-bytes) → Fits (λ n. n ≤ maxCount) (countOutcome (c .read-bytes .result))
 fits c = subst (Fits _) (sym (c .read-bytes .ensures .0)) (bytes-fit _ _)
 
 read-bytes-requires : tie.Need-read-bytes-requires
@@ -21,14 +21,14 @@ enum-known-answer c = search needs
 
 mul-result : tie.Need-mul-result
 mul-result c =
-    let t = subst (λ r. Fits (λ n. n ≤ longest) (countOutcome r)) (c .before .answer .given .1) (fits (c .before .before .before .before .before)) in
+    let t = subst (λ r. Fits (λ n. n ≤ maxCount) (countOutcome r)) (c .before .answer .given .1) (fits (c .before .before .before .before .before)) in
     record { fits = omega (arith, t) }
 
 enum-known-answer-2 : tie.Need-enum-known-answer-2
 enum-known-answer-2 c = search needs
 
 number-of-requires : tie.Need-number-of-requires
-number-of-requires c κs = subst (λ r. Fits (λ n. n ≤ longest) (countOutcome r)) (c .before .answer2 .given .1) (fits (c .before .before .before .before .before))
+number-of-requires c κs = subst (λ r. Fits (λ n. n ≤ maxCount) (countOutcome r)) (c .before .answer2 .given .1) (fits (c .before .before .before .before .before))
 
 same-length : tie.Need-same-length
 same-length c = search needs

@@ -5,7 +5,7 @@ use lib.ListN.{length}
 use lib.Seq.{length-sets}
 use borrow.Author.Needs.{needs}
 use Rattle.calls.proofs.Checks.{number-is, legal-at}
-use Rattle.calls.specs.Limits.{largest}
+use Rattle.calls.specs.Limits.{maxNumber}
 use Rattle.listing_lines.proofs.Lines.{Listed, listed-none, listed-more, listed-end}
 use Rattle.listing_lines.proofs.put_rows.Statement.{statement}
 use Rattle.listing_lines.proofs.put_rows.Tie as tie
@@ -18,10 +18,10 @@ abbrev μ-loop : tie.MeasureT-loop
 μ-loop out₀ order row firsts total₀ i₀ i-end out total i = i-end - i
 
 -- the number at i is one of a row
-number : (c : tie.After-wide Inv-loop μ-loop) → (1 ≤ c .wide .result) × (c .wide .result ≤ largest)
+number : (c : tie.After-wide Inv-loop μ-loop) → (1 ≤ c .wide .result) × (c .wide .result ≤ maxNumber)
 number c =
     let start = c .before .before .before .before .before .before .before in
-    number-is largest (c .wide .result) (rw (c .wide .ensures) (legal-at largest (start .args .row .now) (c .before .before .before .loop .i) (start .pre .2) (omega arith)))
+    number-is maxNumber (c .wide .result) (rw (c .wide .ensures) (legal-at maxNumber (start .args .row .now) (c .before .before .before .loop .i) (start .pre .2) (omega arith)))
 
 first-numbers-requires : tie.Need-first-numbers-requires Inv-loop μ-loop
 first-numbers-requires c κs = c .before .before .pre .0

@@ -4,7 +4,7 @@ use native.Mathlib.Omega.{arith}
 use lib.ListN.{length}
 use Rattle.calls.specs.declared.Refusal.the-variants.{NoRoom}
 use Rattle.calls.specs.declared.CountAnswer.the-variants.{Count, Refused}
-use Rattle.calls.specs.Limits.{mostBytes}
+use Rattle.calls.specs.Limits.{maxBytes}
 use Rattle.encoder.specs.Writing.{writeOutcome}
 use Rattle.encoder.proofs.Writing.{Writable, write-is}
 use Rattle.listing_lines.specs.Lines.{lines}
@@ -19,11 +19,11 @@ use Rattle.listing_text.proofs.list.Tie as tie
 -- the row was written, and so many bytes are printed
 written : (c : tie.After-known-told2)
     → let a = c .before .before .before .before .before .before .before .before .args in
-    Writable (a .order) (a .row .now) mostBytes × (lines (a .order) (a .row .now) (c .before .written2 .given .0 .0) ≡ printed (listingOf (a .order) (a .row .now)))
+    Writable (a .order) (a .row .now) maxBytes × (lines (a .order) (a .row .now) (c .before .written2 .given .0 .0) ≡ printed (listingOf (a .order) (a .row .now)))
 written c =
     let a = c .before .before .before .before .before .before .before .before .args in
     let e = ap writeOutcome (sym (c .before .written2 .given .1)) ∙ c .before .before .before .before .write .ensures .0 in
-    (write-is (a .order) (a .row .now) mostBytes _ _ (sym e) .0, list-written (a .order) (a .row .now) _ _ e)
+    (write-is (a .order) (a .row .now) maxBytes _ _ (sym e) .0, list-written (a .order) (a .row .now) _ _ e)
 
 slice-aggregate-write : tie.Need-slice-aggregate-write
 slice-aggregate-write c = search needs

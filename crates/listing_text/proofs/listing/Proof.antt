@@ -3,7 +3,7 @@ use Prim.Native.Nat.{_-_, _/_, _≤_}
 use native.Mathlib.Omega.{arith}
 use lib.ListN.{length, getD, take, drop}
 use borrow.Author.Tests.{not-true, not-false}
-use Rattle.calls.specs.Limits.{largest}
+use Rattle.calls.specs.Limits.{maxNumber}
 use Rattle.listing_text.specs.Listing.{listingOf, printed, text}
 use Rattle.listing_text.proofs.Printing.{puts-same}
 use Rattle.listing_text.proofs.Answering.{text-long, text-other, text-row}
@@ -15,7 +15,7 @@ use Rattle.listing_text.proofs.listing.Tie as tie
 read : (c : tie.Else2)
     → let s = c .before .before .before .before .before .before .args .input .now in
     let numbers = c .before .parse .last .1 .0 in
-    (1 ≤ length s / 11) × (getD numbers 0 0 ≤ largest) × (printed (listingOf (getD numbers 0 0) (take (length s / 11 - 1) (drop 1 numbers))) ≡ text s)
+    (1 ≤ length s / 11) × (getD numbers 0 0 ≤ maxNumber) × (printed (listingOf (getD numbers 0 0) (take (length s / 11 - 1) (drop 1 numbers))) ≡ text s)
 read c =
     let p = c .before .parse in
     let good = not-false _ (c .if2 .left) in

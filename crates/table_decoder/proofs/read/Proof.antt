@@ -1,8 +1,8 @@
-use Rattle.calls.specs.Limits.{largest}
+use Rattle.calls.specs.Limits.{maxNumber}
 use Rattle.calls.specs.Reading.{decode}
 use Rattle.reading.specs.Reading.{fibonacci}
 use Rattle.reading.proofs.Delivering.{holds-row, delivered-read}
-use Rattle.table_decoder.proofs.Answering.{order-3}
+use Rattle.table_decoder.proofs.Answering.{order-3, table-promise}
 use borrow.Author.Needs.{needs}
 use Rattle.table_decoder.proofs.read.Statement.{statement}
 use Rattle.table_decoder.proofs.read.Tie as tie
@@ -16,7 +16,7 @@ slice-aggregate-deliver c = search needs
 deliver-requires : tie.Need-deliver-requires
 deliver-requires c κs =
     let f = c .before .before .scan-into in
-    holds-row (decode (fibonacci 3) largest (c .before .before .before .before .before .before .args .s .now)) (f .last .1 .1 .0) (f .result) (f .ensures .0) (f .ensures .1)
+    holds-row (decode (fibonacci 3) maxNumber (c .before .before .before .before .before .before .args .s .now)) (f .last .1 .1 .0) (f .result) (f .ensures .0) (f .ensures .1)
 
 same-length : tie.Need-same-length
 same-length c = search needs
@@ -25,7 +25,8 @@ returns : tie.Need-returns
 returns c =
     let d = c .before .before in
     let f = d .before .before .before .scan-into in
-    delivered-read 3 _ _ _ _ (f .result) (d .deliver .result) order-3 (f .ensures .0) (f .ensures .1) (d .deliver .ensures)
+    table-promise _ _ (d .deliver .result) _
+    (delivered-read 3 _ _ _ _ (f .result) (d .deliver .result) order-3 (f .ensures .0) (f .ensures .1) (d .deliver .ensures))
 
 pub read-spec : {M : Type 1} → statement M
 read-spec =

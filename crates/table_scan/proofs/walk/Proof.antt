@@ -29,7 +29,7 @@ step c =
       byte = byte (c .before .before .before);
       row-is = c .before .before .look-up .ensures .0;
       few = c .before .before .look-up .ensures .1;
-      worth = c .moved .ensures .0;
+      bitValue = c .moved .ensures .0;
     }
 
 loop-holds : tie.Need-loop-holds Inv-loop μ-loop
@@ -50,20 +50,20 @@ look-up-requires c κs =
     (t .heads-are, t .tails-are, omega (arith, byte c, walked-state (c .before .before .loop .inv .2)))
 
 add-end : tie.Need-add-end Inv-loop μ-loop
-add-end c = omega (arith, c .before .before .before .before .loop .inv .2 .held, c .before .look-up .ensures .1 .1)
+add-end c = omega (arith, c .before .before .before .before .loop .inv .2 .clamped, c .before .look-up .ensures .1 .1)
 
 moved-requires : tie.Need-moved-requires Inv-loop μ-loop
 moved-requires c κs =
     let few = c .before .look-up .ensures .1 in
-    (c .before .before .before .before .before .before .pre .0 .positions-are, omega (arith, c .before .before .before .before .loop .inv .2 .held), few .2, few .3, few .4)
+    (c .before .before .before .before .before .before .pre .0 .positions-are, omega (arith, c .before .before .before .before .loop .inv .2 .clamped), few .2, few .3, few .4)
 
 add-sum : tie.Need-add-sum Inv-loop μ-loop
 add-sum c =
     let l = c .before .before .before .before .before .loop in
     omega (arith, l .inv .2 .small, c .moved .ensures .1, c .before .before .before .before .before .before .before .pre .1)
 
-held-requires : tie.Need-held-requires Inv-loop μ-loop
-held-requires c κs = search needs
+clamp-length-requires : tie.Need-clamp-length-requires Inv-loop μ-loop
+clamp-length-requires c κs = search needs
 
 returns : tie.Need-returns Inv-loop μ-loop
 returns c =
@@ -176,7 +176,7 @@ walk-spec =
     add-end
     moved-requires
     add-sum
-    held-requires
+    clamp-length-requires
     returns
     number-requires
     passing-requires

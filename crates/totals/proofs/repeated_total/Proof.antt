@@ -7,12 +7,12 @@ use native.Mathlib.Nat.{mul-le-mul}
 use borrow.Author.Needs.{needs}
 use borrow.Author.Tests.{le-leb, lt-leb, not-true, not-false}
 use Rattle.calls.specs.Calls.{accepted}
-use Rattle.calls.specs.Limits.{isOrder, largest}
+use Rattle.calls.specs.Limits.{isOrder, maxNumber}
 use Rattle.calls.specs.Reading.{decode}
 use Rattle.calls.proofs.Checks.{order-is, told-accepted, told-refused}
 use Rattle.reading.specs.Reading.{fibonacci}
-use Rattle.decoder.specs.declared.Found.{Found}
-use Rattle.decoder.specs.Spans.{found, spanOutcome}
+use Rattle.decoder.specs.declared.Summary.{Summary}
+use Rattle.decoder.specs.Leaves.{summary, spanOutcome}
 use Rattle.totals.specs.Totals.{repeatedTotal}
 use Rattle.totals.proofs.Totals.{row-most}
 use Rattle.totals.proofs.repeated_total.Statement.{statement}
@@ -25,10 +25,10 @@ ordered c = sym (c .before .is-order .ensures) ∙ not-false _ (c .if1 .left)
 -- the row of which it was told
 row-of : (c : tie.After-told)
     → let a = c .before .before .before .before .before .before .args in
-    (row : List ℕ) × (decode (fibonacci (a .order)) largest (a .s .now) ≡ accepted row) × (c .told .given .0 .0 ≡ found (a .order) 0 0 row)
+    (row : List ℕ) × (decode (fibonacci (a .order)) maxNumber (a .s .now) ≡ accepted row) × (c .told .given .0 .0 ≡ summary (a .order) 0 0 row)
 row-of c =
     let a = c .before .before .before .before .before .before .args in
-    told-accepted _ (found (a .order) 0 0) _ (ap spanOutcome (sym (c .told .given .1)) ∙ c .before .before .sum-span .ensures)
+    told-accepted _ (summary (a .order) 0 0) _ (ap spanOutcome (sym (c .told .given .1)) ∙ c .before .before .sum-span .ensures)
 
 is-order-requires : tie.Need-is-order-requires
 is-order-requires c κs = search needs
@@ -63,7 +63,7 @@ mul-t14 c =
     let t = c .before .before .before .before in
     let r = row-of t in
     let a = t .before .before .before .before .before .before .args in
-    omega (arith, mul-le-mul (c .before .if3 .left) (row-most _ _ (r .0) (r .1)), ap (λ (f : Found). a .repeats * f .all) (r .2))
+    omega (arith, mul-le-mul (c .before .if3 .left) (row-most _ _ (r .0) (r .1)), ap (λ (f : Summary). a .repeats * f .all) (r .2))
 
 enum-known-told-2 : tie.Need-enum-known-told-2
 enum-known-told-2 c = search needs
@@ -74,7 +74,7 @@ returns-4 c =
     let t = c .before .before .before .before in
     let r = row-of t in
     let a = t .before .before .before .before .before .before .args in
-    ap (λ (f : Found). accepted (a .repeats * f .all)) (r .2)
+    ap (λ (f : Summary). accepted (a .repeats * f .all)) (r .2)
     ∙ rw (ordered (t .before .before .before), r .1) (simp (le-leb 1 (a .repeats) (omega (arith, c .before .before .if2 .left)), le-leb (a .repeats) 10000 (c .before .if3 .left)))
 
 returns-5 : tie.Need-returns-5
@@ -82,7 +82,7 @@ unfolding repeatedTotal
 returns-5 c =
     let t = c .before in
     let a = t .before .before .before .before .before .before .args in
-    let why = told-refused (decode (fibonacci (a .order)) largest (a .s .now)) (found (a .order) 0 0) (t .told2 .given .0 .0) (ap spanOutcome (sym (t .told2 .given .1)) ∙ t .before .before .sum-span .ensures) in
+    let why = told-refused (decode (fibonacci (a .order)) maxNumber (a .s .now)) (summary (a .order) 0 0) (t .told2 .given .0 .0) (ap spanOutcome (sym (t .told2 .given .1)) ∙ t .before .before .sum-span .ensures) in
     rw (ordered (t .before .before .before), why) refl
 
 pub repeated-total-spec : {M : Type 1} → statement M

@@ -7,12 +7,12 @@ use lib.ListN.{length}
 use borrow.Author.Needs.{needs}
 use borrow.Author.Tests.{lt-ltb, le-ltb, not-true, not-false}
 use Rattle.calls.specs.Calls.{accepted}
-use Rattle.calls.specs.Limits.{isOrder, largest}
+use Rattle.calls.specs.Limits.{isOrder, maxNumber}
 use Rattle.calls.specs.Reading.{decode}
 use Rattle.calls.proofs.Checks.{order-is, told-accepted, told-refused}
 use Rattle.reading.specs.Reading.{fibonacci}
-use Rattle.decoder.specs.declared.Found.{Found}
-use Rattle.decoder.specs.Spans.{found, spanOutcome}
+use Rattle.decoder.specs.declared.Summary.{Summary}
+use Rattle.decoder.specs.Leaves.{summary, spanOutcome}
 use Rattle.totals.specs.Totals.{total}
 use Rattle.totals.proofs.total.Statement.{statement}
 use Rattle.totals.proofs.total.Tie as tie
@@ -24,10 +24,10 @@ ordered c = sym (c .before .is-order .ensures) ∙ not-false _ (c .if1 .left)
 -- the row of which it was told
 row-of : (c : tie.After-told)
     → let a = c .before .before .before .before .before .before .args in
-    (row : List ℕ) × (decode (fibonacci (a .order)) largest (a .s .now) ≡ accepted row) × (c .told .given .0 .0 ≡ found (a .order) (a .a) (a .b) row)
+    (row : List ℕ) × (decode (fibonacci (a .order)) maxNumber (a .s .now) ≡ accepted row) × (c .told .given .0 .0 ≡ summary (a .order) (a .a) (a .b) row)
 row-of c =
     let a = c .before .before .before .before .before .before .args in
-    told-accepted _ (found (a .order) (a .a) (a .b)) _ (ap spanOutcome (sym (c .told .given .1)) ∙ c .before .before .sum-span .ensures)
+    told-accepted _ (summary (a .order) (a .a) (a .b)) _ (ap spanOutcome (sym (c .told .given .1)) ∙ c .before .before .sum-span .ensures)
 
 is-order-requires : tie.Need-is-order-requires
 is-order-requires c κs = search needs
@@ -56,7 +56,7 @@ returns-3 c =
     let r = row-of t in
     let a = t .before .before .before .before .before .before .args in
     rw (ordered (t .before .before .before), r .1)
-    (simp (le-ltb _ _ (e .if2 .left), lt-ltb (length (r .0)) (a .b) (omega (arith, ap (λ (f : Found). f .count) (r .2)))))
+    (simp (le-ltb _ _ (e .if2 .left), lt-ltb (length (r .0)) (a .b) (omega (arith, ap (λ (f : Summary). f .count) (r .2)))))
 
 enum-known-told-2 : tie.Need-enum-known-told-2
 enum-known-told-2 c = search needs
@@ -68,15 +68,15 @@ returns-4 c =
     let t = e .before .before in
     let r = row-of t in
     let a = t .before .before .before .before .before .before .args in
-    ap (λ (f : Found). accepted (f .total)) (r .2)
-    ∙ rw (ordered (t .before .before .before), r .1) (simp (le-ltb (a .b) (a .a) (e .if2 .left), le-ltb (length (r .0)) (a .b) (omega (arith, ap (λ (f : Found). f .count) (r .2)))))
+    ap (λ (f : Summary). accepted (f .total)) (r .2)
+    ∙ rw (ordered (t .before .before .before), r .1) (simp (le-ltb (a .b) (a .a) (e .if2 .left), le-ltb (length (r .0)) (a .b) (omega (arith, ap (λ (f : Summary). f .count) (r .2)))))
 
 returns-5 : tie.Need-returns-5
 unfolding total
 returns-5 c =
     let t = c .before in
     let a = t .before .before .before .before .before .before .args in
-    let why = told-refused (decode (fibonacci (a .order)) largest (a .s .now)) (found (a .order) (a .a) (a .b)) (t .told2 .given .0 .0) (ap spanOutcome (sym (t .told2 .given .1)) ∙ t .before .before .sum-span .ensures) in
+    let why = told-refused (decode (fibonacci (a .order)) maxNumber (a .s .now)) (summary (a .order) (a .a) (a .b)) (t .told2 .given .0 .0) (ap spanOutcome (sym (t .told2 .given .1)) ∙ t .before .before .sum-span .ensures) in
     rw (ordered (t .before .before .before), why) refl
 
 pub total-spec : {M : Type 1} → statement M

@@ -3,15 +3,15 @@ use mathlib.Core.Bool.{true}
 use borrow.Author.Needs.{needs}
 use borrow.Author.Tests.{not-true, not-false, lt-ltb, le-ltb}
 use Rattle.calls.specs.Limits.{isOrder, isNumber}
-use Rattle.wavelet.specs.Questions.{mostAlphabet}
+use Rattle.wavelet.specs.Questions.{maxAlphabet}
 use Rattle.wavelet.proofs.check.Statement.{statement}
 use Rattle.wavelet.proofs.check.Tie as tie
 
 ordered : (c : tie.Else1) → isOrder (c .before .before .args .order) ≡ true
 ordered c = sym (c .before .is-order .ensures) ∙ not-false _ (c .if1 .left)
 
-alphabet : (c : tie.After-is-number) → isNumber mostAlphabet (c .before .before .before .before .args .alphabet) ≡ c .is-number .result
-alphabet c = ap (isNumber mostAlphabet) (sym (c .before .wide .ensures)) ∙ sym (c .is-number .ensures)
+alphabet : (c : tie.After-is-number) → isNumber maxAlphabet (c .before .before .before .before .args .alphabet) ≡ c .is-number .result
+alphabet c = ap (isNumber maxAlphabet) (sym (c .before .wide .ensures)) ∙ sym (c .is-number .ensures)
 
 is-order-requires : tie.Need-is-order-requires
 is-order-requires c κs = search needs

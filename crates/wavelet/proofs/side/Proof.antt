@@ -1,6 +1,6 @@
 use native.Mathlib.Omega.{arith}
 use borrow.Author.Needs.{needs}
-use Rattle.wavelet.proofs.Spots.{deep, step-small, side-one, side-zero}
+use Rattle.wavelet.proofs.Cursors.{deep, step-small, side-one, side-zero}
 use Rattle.wavelet.proofs.side.Statement.{statement}
 use Rattle.wavelet.proofs.side.Tie as tie
 

@@ -10,7 +10,7 @@ use Rattle.calls.specs.Calls.{accepted, countOutcome}
 use Rattle.calls.specs.Limits.{Legal}
 use Rattle.wavelet.specs.Bitmaps.{bitmaps}
 use Rattle.wavelet.specs.Answers.{Passed}
-use Rattle.wavelet.specs.Walk.{mostIndex}
+use Rattle.wavelet.specs.Leaves.{maxIndexBytes}
 use Rattle.wavelet.proofs.Answering.{tree-passed, legal-order, legal-alphabet}
 use Rattle.wavelet_build.proofs.Building.{build-refused, build-number, build-room, build-done}
 use Rattle.wavelet_build.proofs.build.Statement.{statement}
@@ -26,7 +26,7 @@ fill-at c = c .before .before .before
 abbrev tree-at : tie.After-enum-told2 → tie.After-enum-told
 tree-at c = fill-at c .before .before .before .before
 
-abbrev numbers-at : tie.After-spread-row → tie.After-enum-told2
+abbrev numbers-at : tie.After-write-bitmaps → tie.After-enum-told2
 numbers-at c = c .before .before .before .before
 
 -- the order, the alphabet and the length are legal
@@ -41,14 +41,14 @@ numbers c =
     sym (fill-at c .fill .ensures .0) ∙ ap countOutcome (c .enum-told2 .given .1)) .0
 
 -- the bitmaps are written
-built : (c : tie.After-spread-row)
+built : (c : tie.After-write-bitmaps)
     → let a = start-of (tree-at (numbers-at c)) .args in
-    (c .spread-row .result ≡ length (bitmaps (a .order) (a .alphabet) (a .row .now)))
-    × (unpack (c .spread-row .last .1 .1 .1 .1 .0) ≡ sets (unpack (replicate mostIndex 0)) 0 (bitmaps (a .order) (a .alphabet) (a .row .now)))
+    (c .write-bitmaps .result ≡ length (bitmaps (a .order) (a .alphabet) (a .row .now)))
+    × (unpack (c .write-bitmaps .last .1 .1 .1 .1 .0) ≡ sets (unpack (replicate maxIndexBytes 0)) 0 (bitmaps (a .order) (a .alphabet) (a .row .now)))
 built c =
     let e = numbers-at c in
     let a = start-of (tree-at e) .args in
-    c .spread-row .ensures .1 (a .row .now) (positive (a .alphabet) (a .row .now) (numbers e))
+    c .write-bitmaps .ensures .1 (a .row .now) (positive (a .alphabet) (a .row .now) (numbers e))
     (fill-at e .fill .ensures .1 _ (ap countOutcome (e .enum-told2 .given .1)))
 
 check-requires : tie.Need-check-requires
@@ -96,30 +96,30 @@ enum-told-2 c = search needs
 array-borrow-prefix-words : tie.Need-array-borrow-prefix-words
 array-borrow-prefix-words c = let e = c .before in omega (arith, passed (tree-at e) .count, fill-at e .fill .kept .1 .1 .1 .1 .0)
 
-slice-aggregate-spread-row : tie.Need-slice-aggregate-spread-row
-slice-aggregate-spread-row c =
+slice-aggregate-write-bitmaps : tie.Need-slice-aggregate-write-bitmaps
+slice-aggregate-write-bitmaps c =
     let e = c .before .before in
     sym (length-take-le _ _ (omega (arith, passed (tree-at e) .count, fill-at e .fill .kept .1 .1 .1 .1 .0)))
 
-slice-aggregate-spread-row-2 : tie.Need-slice-aggregate-spread-row-2
-slice-aggregate-spread-row-2 c = search needs
+slice-aggregate-write-bitmaps-2 : tie.Need-slice-aggregate-write-bitmaps-2
+slice-aggregate-write-bitmaps-2 c = search needs
 
-spread-row-requires : tie.Need-spread-row-requires
-spread-row-requires c κs =
+write-bitmaps-requires : tie.Need-write-bitmaps-requires
+write-bitmaps-requires c κs =
     let e = c .before .before .before in
     let p = passed (tree-at e) in
     let k = length (start-of (tree-at e) .args .row .now) in
     (fill-at e .before .before .before .positions .ensures, record { order = p .order; alphabet = p .alphabet; count = omega (arith, p .count, length-take k (fill-at e .fill .last .1 .1 .1 .1 .0)) }, omega arith)
 
 add-count : tie.Need-add-count
-add-count c = omega (arith, c .before .before .spread-row .ensures .0)
+add-count c = omega (arith, c .before .before .write-bitmaps .ensures .0)
 
 returns-3 : tie.Need-returns-3
 returns-3 c =
     let x = c .before .before .before in
     let e = numbers-at x in
     let a = start-of (tree-at e) .args in
-    build-room (a .order) (a .alphabet) (a .row .now) (a .out .now) (passed (tree-at e)) (numbers e) (x .spread-row .result) (built x .0) (c .if1 .taken)
+    build-room (a .order) (a .alphabet) (a .row .now) (a .out .now) (passed (tree-at e)) (numbers e) (x .write-bitmaps .result) (built x .0) (c .if1 .taken)
 
 slice-aggregate-copy-bytes : tie.Need-slice-aggregate-copy-bytes
 slice-aggregate-copy-bytes c = search needs
@@ -127,7 +127,7 @@ slice-aggregate-copy-bytes c = search needs
 copy-bytes-requires : tie.Need-copy-bytes-requires
 copy-bytes-requires c κs =
     let x = c .before .before .before .before .before in
-    (omega (arith, x .spread-row .ensures .0, x .spread-row .kept .1 .1 .1 .1 .0), omega arith)
+    (omega (arith, x .write-bitmaps .ensures .0, x .write-bitmaps .kept .1 .1 .1 .1 .0), omega arith)
 
 same-length : tie.Need-same-length
 same-length c = search needs
@@ -138,8 +138,8 @@ returns-4 c =
     let e = numbers-at x in
     let a = start-of (tree-at e) .args in
     let b = built x in
-    build-done (a .order) (a .alphabet) (a .row .now) (a .out .now) (passed (tree-at e)) (numbers e) (x .spread-row .result) (b .0)
-    mostIndex (x .spread-row .last .1 .1 .1 .1 .0) _ (x .spread-row .ensures .0) (b .1) (omega arith)
+    build-done (a .order) (a .alphabet) (a .row .now) (a .out .now) (passed (tree-at e)) (numbers e) (x .write-bitmaps .result) (b .0)
+    maxIndexBytes (x .write-bitmaps .last .1 .1 .1 .1 .0) _ (x .write-bitmaps .ensures .0) (b .1) (omega arith)
     (c .before .before .copy-bytes .ensures) (λ i. c .slice-known2 .given i .fits)
 
 pub build-spec : {M : Type 1} → statement M
@@ -157,9 +157,9 @@ build-spec =
     returns-2
     enum-told-2
     array-borrow-prefix-words
-    slice-aggregate-spread-row
-    slice-aggregate-spread-row-2
-    spread-row-requires
+    slice-aggregate-write-bitmaps
+    slice-aggregate-write-bitmaps-2
+    write-bitmaps-requires
     add-count
     returns-3
     slice-aggregate-copy-bytes

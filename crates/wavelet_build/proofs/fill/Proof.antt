@@ -68,8 +68,8 @@ returns c =
     filling-fault (a .order) (a .alphabet) (a .row .now) (l .i) (l .words) (l .inv .3) (c .before .before .wide2 .result) (omega arith)
     (c .before .before .wide2 .ensures) (checked (c .before) ∙ not-true _ (c .if1 .taken))
 
-path-requires : tie.Need-path-requires Inv-loop μ-loop
-path-requires c κs =
+aligned-codeword-requires : tie.Need-aligned-codeword-requires Inv-loop μ-loop
+aligned-codeword-requires c κs =
     let e = c .before .before in
     let t = tables-of (loop-of (e .before)) in
     let p = start-of (loop-of (e .before)) .pre in
@@ -99,7 +99,7 @@ loop-again c =
       refl,
       simp length-set (l .inv .2),
       filling-more (a .order) (a .alphabet) (a .row .now) (l .i) (l .words) (l .inv .3) (n .result) (omega arith)
-          (n .ensures) (c .path .result) (omega (arith, start-of x .pre .2)) (checked (e .before) ∙ not-false _ (e .if1 .left)) (c .path .ensures),
+          (n .ensures) (c .aligned-codeword .result) (omega (arith, start-of x .pre .2)) (checked (e .before) ∙ not-false _ (e .if1 .left)) (c .aligned-codeword .ensures),
     )
 
 same-length-2 : tie.Need-same-length-2 Inv-loop μ-loop
@@ -127,7 +127,7 @@ fill-spec =
     is-number-requires
     same-length
     returns
-    path-requires
+    aligned-codeword-requires
     mul-words
     slice-write-words
     add-i

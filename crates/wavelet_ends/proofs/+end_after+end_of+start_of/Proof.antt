@@ -6,7 +6,7 @@ use lib.ListN.{length}
 use borrow.Author.Tests.{not-true, not-false}
 use borrow.Fn.Kinds.{In}
 use borrow.Fn.PlainCycle.{Measures, is, falls, and}
-use Rattle.wavelet.specs.Walk.{nodeTest, sideOf}
+use Rattle.wavelet.specs.Leaves.{nodeTest, sideOf}
 use Rattle.wavelet.proofs.Walking.{is-node, side-legal, less, end-none, end-leaf, end-short, end-cut, end-on, starts-zero, starts-one, closes-one, closes-zero}
 use Rattle.wavelet_ends.proofs.end_after.Reads as end-after
 use Rattle.wavelet_ends.proofs.end_after.Kinds as end-after-kinds

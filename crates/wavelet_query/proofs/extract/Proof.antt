@@ -1,6 +1,6 @@
 use borrow.Author.Needs.{needs}
 use Rattle.wavelet.specs.declared.QuestionAnswer.the-variants.{Answered}
-use Rattle.wavelet_walk.specs.Descent.{Walks}
+use Rattle.wavelet_walk.specs.Leaves.{Walks}
 use Rattle.wavelet_walk.specs.declared.Question.the-variants.{Extract}
 use Rattle.wavelet_query.proofs.Asking.{walk-refused, walk-answered, extract-refused, extract-place, extract-found}
 use Rattle.wavelet_query.proofs.extract.Statement.{statement}

@@ -2,7 +2,7 @@ use mathlib.Core.Path.{sym, _∙_}
 use borrow.Author.Tests.{not-true, not-false}
 use borrow.Author.Needs.{needs}
 use Rattle.wavelet.specs.declared.QuestionAnswer.the-variants.{Answered}
-use Rattle.wavelet_walk.specs.Descent.{Walks}
+use Rattle.wavelet_walk.specs.Leaves.{Walks}
 use Rattle.wavelet_walk.specs.declared.Question.the-variants.{Rank}
 use Rattle.wavelet_query.proofs.Asking.{walk-refused, walk-answered, rank-refused, rank-number, rank-place, rank-found}
 use Rattle.wavelet_query.proofs.rank.Statement.{statement}

@@ -3,7 +3,7 @@ use borrow.Author.Tests.{not-true, not-false}
 use native.Mathlib.Omega.{arith}
 use borrow.Author.Needs.{needs}
 use Rattle.wavelet.specs.declared.QuestionAnswer.the-variants.{Answered}
-use Rattle.wavelet_walk.specs.Descent.{Walks}
+use Rattle.wavelet_walk.specs.Leaves.{Walks}
 use Rattle.wavelet_walk.specs.declared.Question.the-variants.{Select}
 use Rattle.wavelet_query.proofs.Asking.{walk-refused, walk-answered, select-refused, select-number, select-none, select-fewer, select-found}
 use Rattle.wavelet_query.proofs.select.Statement.{statement}

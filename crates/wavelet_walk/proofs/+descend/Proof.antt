@@ -9,11 +9,11 @@ use borrow.Fn.PlainCycle.{Measures, is, falls, and}
 use Rattle.bits.specs.Bits.{unpack}
 use Rattle.bits.proofs.Bytes.{unpack-length}
 use Rattle.fibonacci.specs.Code.{first}
-use Rattle.wavelet.specs.Questions.{mostAlphabet}
-use Rattle.wavelet.specs.Walk.{nodeTest}
-use Rattle.wavelet.proofs.Spots.{shallow}
+use Rattle.wavelet.specs.Questions.{maxAlphabet}
+use Rattle.wavelet.specs.Leaves.{nodeTest}
+use Rattle.wavelet.proofs.Cursors.{shallow}
 use Rattle.wavelet.proofs.Walking.{is-node, side-legal, less}
-use Rattle.wavelet_walk.proofs.Asked.{view-within, view-side}
+use Rattle.wavelet_walk.proofs.Questions.{view-within, view-side}
 use Rattle.wavelet_walk.proofs.Descending.{find-leaf, find-short, find-cut, find-past, find-done}
 use Rattle.wavelet_walk.proofs.descend.Reads as descend
 use Rattle.wavelet_walk.proofs.descend.Kinds as descend-kinds
@@ -27,7 +27,7 @@ use Rattle.wavelet_walk.proofs.back.Reads as back-reads
 use Rattle.wavelet_walk.proofs.count_on.Reads as count-on-reads
 use Rattle.wavelet_walk.proofs.lost.Reads as lost-reads
 use Rattle.wavelet_walk.proofs.onward.Reads as onward-reads
-use Rattle.wavelet_walk.proofs.reached.Reads as reached-reads
+use Rattle.wavelet_walk.proofs.at_leaf.Reads as at-leaf-reads
 use Rattle.wavelet_walk.proofs.takes_one.Reads as takes-one-reads
 use Rattle.wavelet_walk.proofs.+descend.{statement}
 use Rattle.wavelet_walk.proofs.+descend.Tie.{close}
@@ -45,8 +45,8 @@ abbrev known : ℕ → lts.Claims
 known t = (
   is-node-reads.Asked,
   is-node-reads.Learnt,
-  reached-reads.Asked,
-  reached-reads.Learnt,
+  at-leaf-reads.Asked,
+  at-leaf-reads.Learnt,
   lost-reads.Asked,
   lost-reads.Learnt,
   ones-in-reads.Asked,
@@ -102,7 +102,7 @@ deep : (t : ℕ) (c : Node t) → start t c .args .v .depth < 32
 deep t c =
     let z = start t c in
     let p = z .pre .1 .0 in
-    let l : first (z .args .order) (z .args .v .depth + 1) ≤ mostAlphabet = omega (arith, p .2, small t c .1, p .1) in
+    let l : first (z .args .order) (z .args .v .depth + 1) ≤ maxAlphabet = omega (arith, p .2, small t c .1, p .1) in
     omega (arith, shallow _ _ (p .0 .0) l)
 
 fits : (t : ℕ) (c : Bitmap t) → let a = start t (c .before) .args in a .at + a .k ≤ 8 * length (a .b .now)
@@ -111,15 +111,15 @@ fits t c = omega (arith, start t (c .before) .pre .1 .0 .4, c .if2 .left)
 descend-is-node-requires : (t : ℕ) → lts.Need-is-node-requires (known t) (descend-at t) descend.Post
 descend-is-node-requires t c κs = tt
 
-descend-reached-requires : (t : ℕ) → lts.Need-reached-requires (known t) (descend-at t) descend.Post
-descend-reached-requires t c κs = tt
+descend-at-leaf-requires : (t : ℕ) → lts.Need-at-leaf-requires (known t) (descend-at t) descend.Post
+descend-at-leaf-requires t c κs = tt
 
 descend-returns : (t : ℕ) → lts.Need-returns (known t) (descend-at t) descend.Post
 descend-returns t c =
     let z = c .before .before .before .before in
     let p = z .pre .1 in
-    find-leaf _ _ (z .args .v) _ _ _ (z .args .asked) (z .args .x) (z .args .i) (p .0 .4) (p .1) (sym (c .before .before .is-node .ensures) ∙ not-true _ (c .before .if1 .taken))
-    _ (c .reached .ensures)
+    find-leaf _ _ (z .args .v) _ _ _ (z .args .question) (z .args .x) (z .args .i) (p .0 .4) (p .1) (sym (c .before .before .is-node .ensures) ∙ not-true _ (c .before .if1 .taken))
+    _ (c .at-leaf .ensures)
 
 descend-mul-total : (t : ℕ) → lts.Need-mul-total (known t) (descend-at t) descend.Post
 descend-mul-total t c = omega (arith, start t c .pre .1 .0 .3)
@@ -138,7 +138,7 @@ descend-returns-2 t c =
     let n = c .before .before in
     let z = start t n in
     let p = z .pre .1 in
-    find-short _ _ (z .args .v) _ _ _ (z .args .asked) _ _ (p .0 .4) (p .1) (node-is t n) (c .before .if2 .taken) _ (c .lost .ensures)
+    find-short _ _ (z .args .v) _ _ _ (z .args .question) _ _ (p .0 .4) (p .1) (node-is t n) (c .before .if2 .taken) _ (c .lost .ensures)
 
 descend-ones-in-requires : (t : ℕ) → lts.Need-ones-in-requires (known t) (descend-at t) descend.Post
 descend-ones-in-requires t c κs = (fits t c, start t (c .before) .pre .1 .0 .3)
@@ -147,7 +147,7 @@ descend-takes-one-requires : (t : ℕ) → lts.Need-takes-one-requires (known t)
 descend-takes-one-requires t c κs =
     let m = c .before in
     let z = start t (m .before) in
-    (deep t (m .before), view-within (z .args .asked) (z .args .at) _ _ _ (z .pre .1 .1) (fits t m), z .pre .1 .0 .3)
+    (deep t (m .before), view-within (z .args .question) (z .args .at) _ _ _ (z .pre .1 .1) (fits t m), z .pre .1 .0 .3)
 
 descend-start-of-requires : (t : ℕ) → lts.Need-start-of-requires (known t) (descend-at t) descend.Post
 descend-start-of-requires t c κs =
@@ -163,7 +163,7 @@ descend-returns-3 t c =
     let m = bitmap t y in
     let z = start t (m .before) in
     let p = z .pre .1 in
-    find-cut _ _ (z .args .v) _ _ _ (z .args .asked) (z .args .x) (z .args .i) (p .0 .4) (p .1) (node-is t (m .before)) (fits t m) _ (y .before .before .ones-in .ensures .0)
+    find-cut _ _ (z .args .v) _ _ _ (z .args .question) (z .args .x) (z .args .i) (p .0 .4) (p .1) (node-is t (m .before)) (fits t m) _ (y .before .before .ones-in .ensures .0)
     (y .before .takes-one .result) _ (y .start-of .ensures) (c .before .if3 .taken) _ (c .lost2 .ensures)
 
 descend-side-requires : (t : ℕ) → lts.Need-side-requires (known t) (descend-at t) descend.Post
@@ -180,7 +180,7 @@ descend-onward-requires : (t : ℕ) → lts.Need-onward-requires (known t) (desc
 descend-onward-requires t c κs =
     let m = bitmap t (c .before .before .before) in
     let z = start t (m .before) in
-    (view-within (z .args .asked) (z .args .at) _ _ _ (z .pre .1 .1) (fits t m), z .pre .1 .0 .3)
+    (view-within (z .args .question) (z .args .at) _ _ _ (z .pre .1 .1) (fits t m), z .pre .1 .0 .3)
 
 descend-descend-requires : (t : ℕ) → lts.Need-descend-requires (known t) (descend-at t) descend.Post
 descend-descend-requires t c κs =
@@ -194,7 +194,7 @@ descend-descend-requires t c κs =
       less (a .order) _ (a .v) (y .before .takes-one .result) _ (z .pre .0) (u .ensures .0) (omega (arith, p .0 .0 .0)) (small t (m .before)),
       (
         (p .0 .0, p .0 .1, u .ensures .1, p .0 .3, omega (arith, c .before .before .before .if3 .left)),
-        rw (c .onward .ensures, c .before .count-on .ensures) (view-side (a .asked) (a .k) (unpack (a .b .now)) (a .at) _ l (y .before .before .ones-in .ensures .0) (a .i) (p .1) (y .before .takes-one .result)),
+        rw (c .onward .ensures, c .before .count-on .ensures) (view-side (a .question) (a .k) (unpack (a .b .now)) (a .at) _ l (y .before .before .ones-in .ensures .0) (a .i) (p .1) (y .before .takes-one .result)),
       ),
     )
 
@@ -206,7 +206,7 @@ descend-returns-4 t c =
     let m = bitmap t y in
     let z = start t (m .before) in
     let p = z .pre .1 in
-    find-past _ _ (z .args .v) _ _ _ (z .args .asked) (z .args .x) (z .args .i) (p .0 .4) (p .1) (node-is t (m .before)) (fits t m) _ (y .before .before .ones-in .ensures .0)
+    find-past _ _ (z .args .v) _ _ _ (z .args .question) (z .args .x) (z .args .i) (p .0 .4) (p .1) (node-is t (m .before)) (fits t m) _ (y .before .before .ones-in .ensures .0)
     (y .before .takes-one .result) _ (y .start-of .ensures) (x .before .before .before .if3 .left) _ (x .before .before .side .ensures .0)
     _ (x .before .count-on .ensures) _ (x .onward .ensures) _ (d .descend .ensures) (c .if4 .taken)
 
@@ -230,7 +230,7 @@ descend-returns-5 t c =
     let m = bitmap t y in
     let z = start t (m .before) in
     let p = z .pre .1 in
-    find-done _ _ (z .args .v) _ _ _ (z .args .asked) (z .args .x) (z .args .i) (p .0 .4) (p .1) (node-is t (m .before)) (fits t m) _ (y .before .before .ones-in .ensures .0)
+    find-done _ _ (z .args .v) _ _ _ (z .args .question) (z .args .x) (z .args .i) (p .0 .4) (p .1) (node-is t (m .before)) (fits t m) _ (y .before .before .ones-in .ensures .0)
     (y .before .takes-one .result) _ (y .start-of .ensures) (x .before .before .before .if3 .left) _ (x .before .before .side .ensures .0)
     _ (x .before .count-on .ensures) _ (x .onward .ensures) _ (d .descend .ensures)
     (deep t (m .before)) (sym (y .before .takes-one .ensures)) (e .if4 .left) _ (c .before .end-after .ensures) _ (c .back .ensures)
@@ -240,7 +240,7 @@ pub +descend-spec : {M : Type 1} → statement M
     (descend-at t)
     descend.Post
     (descend-is-node-requires t)
-    (descend-reached-requires t)
+    (descend-at-leaf-requires t)
     (descend-returns t)
     (descend-mul-total t)
     (descend-sub-if2 t)

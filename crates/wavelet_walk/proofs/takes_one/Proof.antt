@@ -1,9 +1,9 @@
 use mathlib.Core.Path.{sym, ap, _∙_}
 use native.Mathlib.Omega.{arith}
 use borrow.Author.Needs.{needs}
-use Rattle.wavelet_walk.specs.Descent.{turn}
+use Rattle.wavelet_walk.specs.Leaves.{turn}
 use Rattle.wavelet_walk.specs.declared.Question.{Question}
-use Rattle.wavelet_walk.proofs.Asked.{by-codeword}
+use Rattle.wavelet_walk.proofs.Questions.{by-codeword}
 use Rattle.wavelet_walk.proofs.takes_one.Statement.{statement}
 use Rattle.wavelet_walk.proofs.takes_one.Tie as tie
 
@@ -30,7 +30,7 @@ returns c =
 returns-2 : tie.Need-returns-2
 returns-2 c =
     let a = c .before .before .before .args in
-    c .next-bit .ensures ∙ by-codeword (a .asked) (c .before .match .keys2) (a .x) _ (a .at) (a .i) (a .depth)
+    c .next-bit .ensures ∙ by-codeword (a .question) (c .before .match .keys2) (a .x) _ (a .at) (a .i) (a .depth)
 
 pub takes-one-spec : {M : Type 1} → statement M
 takes-one-spec =

@@ -4,8 +4,8 @@ use borrow.Author.Needs.{needs}
 use borrow.Author.Tests.{not-true, not-false}
 use Rattle.calls.specs.Calls.{countOutcome}
 use Rattle.wavelet.specs.Answers.{Passed}
-use Rattle.wavelet.proofs.Answering.{tree-passed, tree-refused, legal-order, legal-alphabet, low-root, index-long, ask-not, asked-path}
-use Rattle.wavelet_walk.proofs.Asked.{view-all}
+use Rattle.wavelet.proofs.Answering.{tree-passed, tree-refused, legal-order, legal-alphabet, low-root, index-long, ask-not, target-aligned}
+use Rattle.wavelet_walk.proofs.Questions.{view-all}
 use Rattle.wavelet_walk.proofs.Whole.{walk-not, walk-whole}
 use Rattle.wavelet_walk.proofs.walk.Statement.{statement}
 use Rattle.wavelet_walk.proofs.walk.Tie as tie
@@ -47,8 +47,8 @@ wide-requires c κs = search needs
 wide-requires-2 : tie.Need-wide-requires-2
 wide-requires-2 c κs = search needs
 
-asked-requires : tie.Need-asked-requires
-asked-requires c κs =
+target-codeword-requires : tie.Need-target-codeword-requires
+target-codeword-requires c κs =
     let w = c .before .before in
     (w .before .positions .ensures, omega (arith, legal-alphabet (passed (w .before .before .before)) .1, w .wide .ensures))
 
@@ -65,7 +65,7 @@ descend-requires c κs =
     let f = few-at r in
     let p = passed (f .before) in (
       (w .before .positions .ensures, omega (arith, legal-alphabet p .1, w .wide .ensures), low-root p (r .root .ensures), f .if1 .left, omega arith),
-      view-all (start-of (f .before) .args .asked) _ _ (omega (arith, c .before .least .ensures)),
+      view-all (start-of (f .before) .args .question) _ _ (omega (arith, c .before .least .ensures)),
     )
 
 is-exact-requires : tie.Need-is-exact-requires
@@ -79,7 +79,7 @@ returns-3 c =
     let w = r .before .before .before .before in
     let f = few-at r in
     let a = start-of (f .before) .args in
-    walk-not (passed (f .before)) (a .b .now) (r .root .result) (r .root .ensures) (a .asked) _ (a .i) (d .descend .result) (w .wide .ensures)
+    walk-not (passed (f .before)) (a .b .now) (r .root .result) (r .root .ensures) (a .question) _ (a .i) (d .descend .result) (w .wide .ensures)
     (d .before .before .least .ensures) (d .descend .ensures) _ (x .is-exact .ensures) (a .n) (not-true _ (c .if2 .taken))
 
 returns-4 : tie.Need-returns-4
@@ -90,9 +90,9 @@ returns-4 c =
     let w = r .before .before .before .before in
     let f = few-at r in
     let a = start-of (f .before) .args in
-    walk-whole (passed (f .before)) (a .b .now) (r .root .result) (r .root .ensures) (a .asked) _ (a .i) (d .descend .result) (w .wide .ensures)
+    walk-whole (passed (f .before)) (a .b .now) (r .root .result) (r .root .ensures) (a .question) _ (a .i) (d .descend .result) (w .wide .ensures)
     (d .before .before .least .ensures) (d .descend .ensures) _ (x .is-exact .ensures) (a .n) (not-false _ (c .if2 .left))
-    (asked-path _ _ (w .wide .ensures) (r .before .before .wide2 .ensures) (r .before .asked .ensures))
+    (target-aligned _ _ (w .wide .ensures) (r .before .before .wide2 .ensures) (r .before .target-codeword .ensures))
 
 pub walk-spec : {M : Type 1} → statement M
 walk-spec =
@@ -106,7 +106,7 @@ walk-spec =
     positions-requires
     wide-requires
     wide-requires-2
-    asked-requires
+    target-codeword-requires
     root-requires
     least-requires
     descend-requires

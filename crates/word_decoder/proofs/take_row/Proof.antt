@@ -12,15 +12,15 @@ use borrow.Author.Tests.{not-false}
 use Rattle.bits.specs.Bits.{unpack}
 use Rattle.bits.proofs.Bytes.{unpack-length}
 use Rattle.calls.proofs.Checks.{number-is}
-use Rattle.calls.specs.Limits.{isNumber, longest}
+use Rattle.calls.specs.Limits.{isNumber, maxCount}
 use Rattle.word_decoder.proofs.Taking.{Going, taken-none, going-filled, going-zero, going-within, going-short, going-more}
-use Rattle.word_decoder.proofs.Spans.{begun-none}
+use Rattle.word_decoder.proofs.Spans.{decoded-none}
 use Rattle.word_decoder.proofs.take_row.Statement.{statement}
 use Rattle.word_decoder.proofs.take_row.Tie as tie
 
 abbrev Inv-loop : tie.InvT-loop
 Inv-loop firsts order s limit row₀ values most bit₀ count₀ left₀ starts₀ row bit count left starts =
-    Going order limit (unpack s) 0 (take count row) bit count left starts × (length row ≡ length row₀) × (count ≤ most) × (most ≡ min (length row₀) longest) × (1 ≤ starts)
+    Going order limit (unpack s) 0 (take count row) bit count left starts × (length row ≡ length row₀) × (count ≤ most) × (most ≡ min (length row₀) maxCount) × (1 ≤ starts)
 
 abbrev μ-loop : tie.MeasureT-loop
 μ-loop firsts order s limit row₀ values most bit₀ count₀ left₀ starts₀ row bit count left starts = 8 * length s - bit
@@ -75,19 +75,19 @@ fill-requires c κs = search needs
 least-requires : tie.Need-least-requires Inv-loop μ-loop
 least-requires c κs = search needs
 
-ahead-requires : tie.Need-ahead-requires Inv-loop μ-loop
-ahead-requires c κs = (c .before .before .before .before .before .pre .0 .0, omega arith)
+window-at-requires : tie.Need-window-at-requires Inv-loop μ-loop
+window-at-requires c κs = (c .before .before .before .before .before .pre .0 .0, omega arith)
 
 returns : tie.Need-returns Inv-loop μ-loop
-returns c = (begun-none _ _ _, refl)
+returns c = (decoded-none _ _ _, refl)
 
 loop-holds : tie.Need-loop-holds Inv-loop μ-loop
 loop-holds c =
-    let e = c .before .ahead .ensures in (
+    let e = c .before .window-at .ensures in (
       record {
         taken = taken-none _ _ _ _ (omega arith);
         many = refl;
-        ahead = e .0;
+        window_at = e .0;
         marked = e .1;
         low = e .2;
       },
@@ -142,8 +142,8 @@ shl-starts c = omega (arith, short c)
 shl-left : tie.Need-shl-left Inv-loop μ-loop
 shl-left c = omega (arith, short c)
 
-ahead-requires-2 : tie.Need-ahead-requires-2 Inv-loop μ-loop
-ahead-requires-2 c κs = (start (c .before) .pre .0 .0, within (c .before))
+window-at-requires-2 : tie.Need-window-at-requires-2 Inv-loop μ-loop
+window-at-requires-2 c κs = (start (c .before) .pre .0 .0, within (c .before))
 
 same-length-2 : tie.Need-same-length-2 Inv-loop μ-loop
 same-length-2 c = sized (c .before .before .before)
@@ -160,7 +160,7 @@ loop-less c = let e = c .before .before .before in omega (arith, within e, start
 loop-again : tie.Need-loop-again Inv-loop μ-loop
 loop-again c =
     let e = c .before .before .before in
-    let a = c .before .ahead2 .ensures in
+    let a = c .before .window-at2 .ensures in
     (going-filled (more e) _ _ (a .0) (a .1) (a .2), sized e, omega (arith, inside e .loop-test .taken), at e .loop .inv .3, omega (arith, c .if4 .left))
 
 loop-less-2 : tie.Need-loop-less-2 Inv-loop μ-loop
@@ -187,7 +187,7 @@ take-row-spec =
     μ-loop
     fill-requires
     least-requires
-    ahead-requires
+    window-at-requires
     returns
     loop-holds
     cast-len
@@ -203,7 +203,7 @@ take-row-spec =
     add-bit
     shl-starts
     shl-left
-    ahead-requires-2
+    window-at-requires-2
     same-length-2
     returns-3
     loop-less

@@ -7,19 +7,19 @@ use lib.ListN.{length, length-append}
 use lib.Count.{leadingZeros, leading-le}
 use borrow.Author.Needs.{needs}
 use borrow.Author.Tests.{not-false}
+use Rattle.lists.specs.Lists.{sum}
+use Rattle.lists.proofs.Sums.{sum-snoc}
 use Rattle.bits.specs.Bits.{unpack}
 use Rattle.bits.proofs.Bytes.{unpack-length}
-use Rattle.fibonacci.specs.Code.{sum}
 use Rattle.calls.proofs.Checks.{number-is}
-use Rattle.calls.specs.Limits.{isNumber, largest}
-use Rattle.fibonacci.proofs.Sums.{sum-snoc}
+use Rattle.calls.specs.Limits.{isNumber, maxNumber}
 use Rattle.word_decoder.proofs.Taking.{Going, taken-none, going-filled, going-zero, going-within, going-short, going-more}
 use Rattle.word_decoder.proofs.take_sum.Statement.{statement}
 use Rattle.word_decoder.proofs.take_sum.Tie as tie
 
 abbrev Inv-loop : tie.InvT-loop
 Inv-loop values firsts order s limit from most bit₀ taken₀ total₀ left₀ starts₀ bit taken total left starts =
-    (row : List ℕ) × Going order limit (unpack s) from row bit taken left starts × (total ≡ sum row) × (total ≤ largest * length row) × (taken ≤ most) × (1 ≤ starts)
+    (row : List ℕ) × Going order limit (unpack s) from row bit taken left starts × (total ≡ sum row) × (total ≤ maxNumber * length row) × (taken ≤ most) × (1 ≤ starts)
 
 abbrev μ-loop : tie.MeasureT-loop
 μ-loop values firsts order s limit from most bit₀ taken₀ total₀ left₀ starts₀ bit taken total left starts = 8 * length s - bit
@@ -62,14 +62,14 @@ module _ (c : tie.Else2 Inv-loop μ-loop) where
   summed : at .loop .sum + n ≡ sum (at .loop .inv .0 ++ (n ∷ []))
   summed = omega (arith, sum-snoc (at .loop .inv .0) n, at .loop .inv .2)
 
-  little : at .loop .sum + n ≤ largest * length (at .loop .inv .0 ++ (n ∷ []))
+  little : at .loop .sum + n ≤ maxNumber * length (at .loop .inv .0 ++ (n ∷ []))
   little = omega (arith, length-append (at .loop .inv .0) (n ∷ []), at .loop .inv .3, number-is _ _ (passed c), start .pre .3)
 
   few : at .loop .taken + 1 ≤ start .args .most
   few = omega (arith, inside .loop-test .taken)
 
-ahead-requires : tie.Need-ahead-requires Inv-loop μ-loop
-ahead-requires c κs = (c .before .pre .0 .0, c .before .pre .5)
+window-at-requires : tie.Need-window-at-requires Inv-loop μ-loop
+window-at-requires c κs = (c .before .pre .0 .0, c .before .pre .5)
 
 returns : tie.Need-returns Inv-loop μ-loop
 returns c =
@@ -84,13 +84,13 @@ returns c =
 
 loop-holds : tie.Need-loop-holds Inv-loop μ-loop
 loop-holds c =
-    let e = c .before .ahead .ensures in
+    let e = c .before .window-at .ensures in
     let z = c .before .before .before in (
       [],
       record {
         taken = taken-none _ _ _ _ (omega (arith, unpack-length (z .args .s .now), z .pre .5));
         many = refl;
-        ahead = e .0;
+        window_at = e .0;
         marked = e .1;
         low = e .2;
       },
@@ -134,8 +134,8 @@ shl-starts c = omega (arith, short c)
 shl-left : tie.Need-shl-left Inv-loop μ-loop
 shl-left c = omega (arith, short c)
 
-ahead-requires-2 : tie.Need-ahead-requires-2 Inv-loop μ-loop
-ahead-requires-2 c κs = (start (c .before) .pre .0 .0, within (c .before))
+window-at-requires-2 : tie.Need-window-at-requires-2 Inv-loop μ-loop
+window-at-requires-2 c κs = (start (c .before) .pre .0 .0, within (c .before))
 
 returns-3 : tie.Need-returns-3 Inv-loop μ-loop
 returns-3 c =
@@ -148,7 +148,7 @@ loop-less c = let e = c .before .before .before in omega (arith, within e, start
 loop-again : tie.Need-loop-again Inv-loop μ-loop
 loop-again c =
     let e = c .before .before .before in
-    let a = c .before .ahead2 .ensures in
+    let a = c .before .window-at2 .ensures in
     (_, going-filled (more e) _ _ (a .0) (a .1) (a .2), summed e, little e, few e, omega (arith, c .if4 .left))
 
 loop-less-2 : tie.Need-loop-less-2 Inv-loop μ-loop
@@ -168,7 +168,7 @@ take-sum-spec =
     (tie.spec
     Inv-loop
     μ-loop
-    ahead-requires
+    window-at-requires
     returns
     loop-holds
     cast-len
@@ -181,7 +181,7 @@ take-sum-spec =
     add-bit
     shl-starts
     shl-left
-    ahead-requires-2
+    window-at-requires-2
     returns-3
     loop-less
     loop-again

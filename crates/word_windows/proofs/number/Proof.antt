@@ -5,39 +5,39 @@ use native.Mathlib.Decide.{decLe}
 use borrow.Author.Needs.{needs}
 use Rattle.fibonacci.specs.Code.{first}
 use Rattle.calls.proofs.Checks.{above-number}
-use Rattle.calls.specs.Limits.{isNumber, largest}
+use Rattle.calls.specs.Limits.{isNumber, maxNumber}
 use Rattle.fibonacci.proofs.Numbers.{first-pos}
-use Rattle.fibonacci.proofs.Lookup.{bounded-is, bounded-none, bounded-some, first-few, first-within}
-use Rattle.digit_values.specs.Values.{Capped}
-use Rattle.word_windows.specs.Windows.{Judged}
+use Rattle.fibonacci.proofs.Lookup.{number-kept, number-none, number-some, first-few, first-within}
+use Rattle.digit_values.specs.Leaves.{Saturated}
+use Rattle.word_windows.specs.Leaves.{ExactIfLegal}
 use Rattle.word_windows.proofs.number.Statement.{statement}
 use Rattle.word_windows.proofs.number.Tie as tie
 
 -- a first number, and what a value was found to be
-judged : (f v r n : ℕ) → 1 ≤ f → n ≡ f + r → Capped v r → Judged (f + v) n
+judged : (f v r n : ℕ) → 1 ≤ f → n ≡ f + r → Saturated v r → ExactIfLegal (f + v) n
 judged f v r n p e k = (
   λ h. omega (arith, k .0 (omega arith)),
   λ h.
-      elim (decLe v largest) [
-        | yes l ↦ above-number largest n (omega arith) (omega (arith, k .0 l))
-        | no l ↦ above-number largest n (omega arith) (omega (arith, k .1 (omega arith)))
+      elim (decLe v maxNumber) [
+        | yes l ↦ above-number maxNumber n (omega arith) (omega (arith, k .0 l))
+        | no l ↦ above-number maxNumber n (omega arith) (omega (arith, k .1 (omega arith)))
       ],
 )
 
 -- the first number of few bits, and one that was found
 short : (c : tie.After-first-number) → let a = c .before .before .args in
-    (first (a .order) (a .len) ≤ largest) × (c .first-number .result ≡ first (a .order) (a .len))
+    (first (a .order) (a .len) ≤ maxNumber) × (c .first-number .result ≡ first (a .order) (a .len))
 short c =
     let a = c .before .before .args in
     let few = first-few (a .order) (a .len) (c .before .before .pre .0 .0) (c .before .if1 .taken) in
-    (few, omega (arith, bounded-is _ few))
+    (few, omega (arith, number-kept _ few))
 
 near : (c : tie.Else2) → let a = c .before .before .before .args in
-    (first (a .order) (a .len) ≤ largest) × (c .before .first-number2 .result ≡ first (a .order) (a .len))
+    (first (a .order) (a .len) ≤ maxNumber) × (c .before .first-number2 .result ≡ first (a .order) (a .len))
 near c =
     let a = c .before .before .before .args in
-    let some = bounded-some (first (a .order) (a .len)) (λ e. omega (arith, c .if2 .left)) in
-    (some, omega (arith, bounded-is _ some))
+    let some = number-some (first (a .order) (a .len)) (λ e. omega (arith, c .if2 .left)) in
+    (some, omega (arith, number-kept _ some))
 
 first-number-requires : tie.Need-first-number-requires
 first-number-requires c κs = search needs
@@ -62,7 +62,7 @@ returns-2 : tie.Need-returns-2
 unfolding isNumber
 returns-2 c =
     let a = c .before .before .before .args in
-    let none = bounded-none (first (a .order) (a .len)) (first-pos (a .order) (a .len)) (omega arith) in
+    let none = number-none (first (a .order) (a .len)) (first-pos (a .order) (a .len)) (omega arith) in
     ((λ h. absurd (omega (arith, none)), λ h. refl), omega arith)
 
 value-requires : tie.Need-value-requires

@@ -1,0 +1,75 @@
+-- The two readers agree, and return the numbers of the parse.
+use mathlib.Core.Path.{_≡_, refl, sym, ap, ap₂, _∙_}
+use mathlib.Core.Bool.{Bool}
+use mathlib.Core.List.{List, _++_}
+use Prim.Native.Nat.{ℕ, _*_, _/_}
+use native.Mathlib.Omega.{arith}
+use native.Mathlib.Decide.{decLe}
+use lib.Dec.{ltb}
+use lib.ListN.{length, drop}
+use borrow.Author.Tests.{lt-ltb, le-ltb}
+use Rattle.bits.specs.Bits.{unpack}
+use Rattle.fibonacci.specs.Encoding.{numbers}
+use Rattle.calls.specs.declared.Refusal.the-variants.{NoRoom}
+use Rattle.calls.specs.Calls.{Outcome, accepted, refused, check, andThen}
+use Rattle.calls.specs.Limits.{maxNumber}
+use Rattle.calls.specs.Reading.{decode, counted}
+use Rattle.calls.proofs.Checks.{is-order}
+use Rattle.reading.specs.Reading.{fibonacci, read, readInto}
+use Rattle.reading.proofs.Decoding.{decode-is, read-is, read-row}
+use Rattle.table_decoder.specs.Reading.{readTable, readTableInto, rowBytes, readBytes, readBytesInto}
+use Rattle.table_decoder.proofs.Answering.{order-3, table-decode, table-read, table-into, bytes-long}
+use Rattle.demands.specs.Readers.{ReturnsParse, TwoReaders}
+
+-- ## The numbers of the parse
+
+read-parse : (m : ℕ) → ReturnsParse m (read m) (readInto m)
+read-parse m s before n e =
+    let i = read-is m s (length before) n e in
+    let row = i .1 .0 in
+    let same : row ≡ numbers m (unpack s) = decode-is m maxNumber s row (i .1 .1) .is in (
+      i .1 .2 ∙ ap length same,
+      sym (read-row m s before (is-order m (i .0)) row (i .1 .1) (i .1 .3) .1) ∙ ap₂ (λ (r : List ℕ) (k : ℕ). r ++ drop k before) same (sym (i .1 .2)),
+    )
+
+table-parse : ReturnsParse 3 readTable readTableInto
+table-parse s before n e =
+    let p = read-parse 3 s before n (sym (table-read s (length before)) ∙ e) in
+    (p .0, table-into s before ∙ p .1)
+
+-- ## Into bytes
+
+-- four bytes for each of n numbers are there exactly where n numbers fit a fourth of the bytes
+room-bytes : (room n : ℕ) → ltb room (4 * n) ≡ ltb (room / 4) n
+room-bytes room n =
+    elim (decLe (4 * n) room) [
+      | yes h ↦ le-ltb room (4 * n) h ∙ sym (le-ltb (room / 4) n (omega arith))
+      | no h ↦ lt-ltb room (4 * n) (omega arith) ∙ sym (lt-ltb (room / 4) n (omega arith))
+    ]
+
+bytes-read : (s : List ℕ) (room : ℕ) → readBytes s room ≡ read 3 s (room / 4)
+unfolding readBytes read
+bytes-read s room = rw (order-3, table-decode s) (by (decode (fibonacci 3) maxNumber s))
+  where
+    by : (d : Outcome (List ℕ)) → andThen d (λ row. check NoRoom (ltb room (4 * length row)) (accepted (length row))) ≡ andThen d (counted (room / 4))
+    by (accepted row) = ap (λ (t : Bool). check NoRoom t (accepted (length row))) (room-bytes room (length row))
+    by (refused r) = refl
+
+bytes-written : (s before : List ℕ) (count : ℕ) → readBytes s (length before) ≡ accepted count
+    → (count ≡ length (numbers 3 (unpack s))) × (readBytesInto s before ≡ rowBytes (numbers 3 (unpack s)) ++ drop (4 * count) before)
+unfolding readBytesInto
+bytes-written s before count e =
+    let i = read-is 3 s (length before / 4) count (sym (bytes-read s (length before)) ∙ e) in
+    let n : count ≡ length (numbers 3 (unpack s)) = i .1 .2 ∙ ap length (decode-is 3 maxNumber s (i .1 .0) (i .1 .1) .is) in
+    (n, rw (e, bytes-long (numbers 3 (unpack s)), ← n) refl)
+
+pub two-readers : TwoReaders
+two-readers =
+    record {
+      agree = table-read;
+      agree-output = table-into;
+      agree-bytes = bytes-read;
+      returns-parse = read-parse;
+      returns-parse-table = table-parse;
+      returns-parse-bytes = bytes-written;
+    }

@@ -1,0 +1,105 @@
+-- The sentences under the table of examples.
+use mathlib.Core.Path.{_≡_, refl, sym, ap, ap₂, _∙_}
+use mathlib.Core.Bool.{true}
+use mathlib.Core.List.{List, [], _∷_, _++_, flatten}
+use Prim.Native.Nat.{ℕ, zero, suc, _*_, _≤_}
+use native.Mathlib.Omega.{arith}
+use native.Mathlib.Nat.{suc-mul}
+use lib.ListN.{length, take, length-append, length-replicate}
+use lib.Seq.{take-append-seam}
+use borrow.Author.Tests.{lt-ltb}
+use Rattle.bits.specs.Bits.{bitOf, wordBits, unpack, wordOf, bytesOf, byteCount, pack, count}
+use Rattle.bits.proofs.Packing.{pack-length}
+use Rattle.fibonacci.specs.Code.{past, F, value, first, number, size, digits, codeword}
+use Rattle.fibonacci.specs.Encoding.{rowBits, encoding, parseAfter, parse, numbers}
+use Rattle.calls.proofs.Checks.{is-order, positive}
+use Rattle.calls.specs.declared.Refusal.the-variants.{TooManyNumbers, TooManyCodewords, FullRow}
+use Rattle.calls.specs.Calls.{accepted, refused}
+use Rattle.calls.specs.Limits.{Order, isOrder, isNumber, Legal, maxNumber, maxCount, checkEach}
+use Rattle.calls.specs.Reading.{checkFinished, contents, decode}
+use Rattle.fibonacci.proofs.Rows.{encoding-read}
+use Rattle.reading.specs.Reading.{fibonacci, read, readInto}
+use Rattle.reading.proofs.Checking.{contents-many}
+use Rattle.reading.proofs.Decoding.{decode-contents}
+use Rattle.encoder.specs.Writing.{write}
+use Rattle.encoder.proofs.Writing.{write-accepts}
+use Rattle.appender.specs.Appending.{append}
+use Rattle.appender.proofs.Appending.{extend-full, append-read}
+use Rattle.demands.proofs.RoundTrip.{decode-encoding, legal-same}
+use Rattle.demands.specs.Pencil.{answer}
+use Rattle.demands.specs.Sentences.{onesRow, Largest, Sentences}
+
+-- ## 4,096 ones
+
+ones-legal : (k : ℕ) → Legal maxNumber (onesRow k)
+unfolding onesRow isNumber
+ones-legal k = legal-same k 1 refl
+
+ones-length : (k : ℕ) → length (onesRow k) ≡ k
+unfolding onesRow
+ones-length k = length-replicate {A = ℕ} k 1
+
+-- each is m bits
+ones-bits : (m k : ℕ) → length (rowBits m (onesRow k)) ≡ k * m
+unfolding onesRow rowBits flatten codeword size first digits
+ones-bits m zero = omega arith
+ones-bits m (suc k) =
+    omega (arith, length-append (codeword m 1) (rowBits m (onesRow k)), length-replicate m true, ones-bits m k, suc-mul k m)
+
+ones-bytes : (m k : ℕ) → length (encoding m (onesRow k)) ≡ byteCount (k * m)
+unfolding encoding
+ones-bytes m k = pack-length (rowBits m (onesRow k)) ∙ ap byteCount (ones-bits m k)
+
+-- the last of one more
+ones-more : (k : ℕ) → onesRow (suc k) ≡ onesRow k ++ (1 ∷ [])
+unfolding onesRow
+ones-more zero = refl
+ones-more (suc k) = ap (λ (l : List ℕ). 1 ∷ l) (ones-more k)
+
+module _ (m : ℕ) (o : Order m) where
+  full-bytes : length (encoding m (onesRow maxCount)) ≡ 512 * m
+  full-bytes = omega (arith, ones-bytes m maxCount)
+
+  full : (room : ℕ) → 512 * m ≤ room → write m (onesRow maxCount) room ≡ accepted (512 * m, 4096 * m)
+  full room h =
+      write-accepts m (onesRow maxCount) room
+      (record { order = o; count = omega (arith, ones-length maxCount); legal = ones-legal maxCount; fits = omega (arith, full-bytes) })
+      ∙ ap₂ (λ (k n : ℕ). accepted (k, n)) full-bytes (ones-bits m maxCount)
+
+  written : (room : ℕ) → write m (onesRow (suc maxCount)) room ≡ refused TooManyNumbers
+  unfolding write
+  written room = rw (is-order m o, lt-ltb maxCount (length (onesRow (suc maxCount))) (omega (arith, ones-length (suc maxCount))))
+
+  decoded : decode (fibonacci m) maxNumber (encoding m (onesRow (suc maxCount))) ≡ refused TooManyCodewords
+  decoded =
+      decode-contents m maxNumber (encoding m (onesRow (suc maxCount))) (omega (arith, ones-bytes m (suc maxCount)))
+      ∙ contents-many maxNumber m (encoding m (onesRow (suc maxCount))) (onesRow maxCount) (ones-legal maxCount) 1 []
+      (encoding-read m (onesRow (suc maxCount)) (omega arith) (positive maxNumber (onesRow (suc maxCount)) (ones-legal (suc maxCount))) ∙ ones-more maxCount)
+      (ones-length maxCount)
+
+  read-back : (room : ℕ) → read m (encoding m (onesRow (suc maxCount))) room ≡ refused TooManyCodewords
+  unfolding read
+  read-back room = rw (is-order m o, decoded)
+
+  appended : (after : List ℕ) → append m (encoding m (onesRow maxCount) ++ after) (512 * m) 1 ≡ refused FullRow
+  unfolding isNumber
+  appended after =
+      let s : List ℕ = encoding m (onesRow maxCount) in
+      let front : take (512 * m) (s ++ after) ≡ s = ap (λ (k : ℕ). take k (s ++ after)) (sym full-bytes) ∙ take-append-seam s after in
+      let rowOfBitmaps : decode (fibonacci m) maxNumber (take (512 * m) (s ++ after)) ≡ accepted (onesRow maxCount) =
+      ap (decode (fibonacci m) maxNumber) front ∙ decode-encoding m (onesRow maxCount) o (omega (arith, ones-length maxCount)) (ones-legal maxCount) in
+      append-read m (s ++ after) (512 * m) 1 (is-order m o) (omega (arith, length-append s after, full-bytes)) (onesRow maxCount) rowOfBitmaps
+      ∙ extend-full m (length (s ++ after)) (onesRow maxCount) 1 refl (omega (arith, ones-length maxCount))
+
+-- ## The largest number
+
+largest-number : Largest
+unfolding answer flatten bitOf wordBits unpack wordOf bytesOf pack count past F value first number size digits codeword rowBits encoding parseAfter parse numbers isOrder isNumber checkEach checkFinished contents decode read readInto write
+largest-number = record { written = refl; read-back = refl; next = refl }
+
+pub sentences-hold : Sentences
+sentences-hold =
+    record {
+      ones = λ m o. record { full = full m o; written = written m o; read-back = read-back m o; appended = appended m o };
+      largest-number = largest-number;
+    }

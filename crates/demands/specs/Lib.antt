@@ -1,0 +1,6 @@
+pub mod Codes
+pub mod RoundTrip
+pub mod Readers
+pub mod Index
+pub mod Pencil
+pub mod Sentences

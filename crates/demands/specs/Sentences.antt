@@ -1,0 +1,42 @@
+-- Paper 01, the sentences under "Knots to check by pencil".
+use mathlib.Core.Path.{_≡_}
+use mathlib.Core.List.{List, [], _∷_, _++_}
+use Prim.Native.Nat.{ℕ, suc, _*_, _≤_}
+use lib.ListN.{replicate}
+use Rattle.lists.specs.Lists.{valuesFrom}
+use Rattle.fibonacci.specs.Encoding.{encoding}
+use Rattle.calls.specs.declared.Refusal.the-variants.{TooManyNumbers, TooManyCodewords, FullRow}
+use Rattle.calls.specs.Calls.{accepted, refused}
+use Rattle.calls.specs.Limits.{Order, maxNumber, maxCount}
+use Rattle.reading.specs.Reading.{read}
+use Rattle.encoder.specs.Writing.{write}
+use Rattle.appender.specs.Appending.{append}
+use Rattle.demands.specs.Pencil.{answer, Read}
+
+-- A row of ones
+unfoldable pub onesRow : ℕ → List ℕ
+onesRow k = replicate k 1
+
+-- "4,096 ones in order 2 fill 1,024 bytes; a 4,097th gives 4": in order m they fill 512 m bytes, with no bit to spare
+pub record Ones (m : ℕ) : Type 0 where
+  pub full : (room : ℕ) → 512 * m ≤ room → write m (onesRow maxCount) room ≡ accepted (512 * m, 4096 * m)
+  -- a 4,097th in writing, in reading and in appending
+  pub written : (room : ℕ) → write m (onesRow (suc maxCount)) room ≡ refused TooManyNumbers
+  pub read-back : (room : ℕ) → read m (encoding m (onesRow (suc maxCount))) room ≡ refused TooManyCodewords
+  pub appended : (after : List ℕ) → append m (encoding m (onesRow maxCount) ++ after) (512 * m) 1 ≡ refused FullRow
+
+-- What the orders 2 to 6 give
+abbrev pub orders : {A : Type 0} → (ℕ → A) → List A
+orders f = valuesFrom f 2 5
+
+-- "Number 4,294,967,295 is accepted; the codeword of the next gives 7"
+pub record Largest : Type 0 where
+  -- its bytes and bits in each order
+  pub written : orders (λ m. write m (maxNumber ∷ []) 6) ≡ accepted (6, 47) ∷ accepted (5, 39) ∷ accepted (5, 38) ∷ accepted (5, 38) ∷ accepted (5, 39) ∷ []
+  pub read-back : orders (λ m. answer (Read m (encoding m (maxNumber ∷ [])) 1)) ≡ replicate 5 (0, 1 ∷ [], maxNumber ∷ [])
+  pub next : orders (λ m. answer (Read m (encoding m (suc maxNumber ∷ [])) 1)) ≡ replicate 5 (7, [], 0 ∷ [])
+
+-- For every order
+pub record Sentences : Type 0 where
+  pub ones : (m : ℕ) → Order m → Ones m
+  pub largest-number : Largest

@@ -1,0 +1,12 @@
+-- What holds of each element of a list.
+use mathlib.Core.List.{List, [], _∷_, _++_}
+use Rattle.lists.specs.Lists.{All}
+
+module _ {A : Type 0} where
+  pub all-map : (P Q : A → Type 0) → ((x : A) → P x → Q x) → (l : List A) → All P l → All Q l
+  all-map P Q f [] a = tt
+  all-map P Q f (x ∷ l) a = (f x (a .0), all-map P Q f l (a .1))
+
+  pub all-append : (P : A → Type 0) (l r : List A) → All P l → All P r → All P (l ++ r)
+  all-append P [] r a c = c
+  all-append P (x ∷ l) r a c = (a .0, all-append P l r (a .1) c)

@@ -1,0 +1,4 @@
+pub mod Lists
+pub mod Each
+pub mod Filter
+pub mod Sums

@@ -1,0 +1,46 @@
+-- What the functions that write the bitmaps of a row promise.
+use mathlib.Core.Path.{_≡_}
+use mathlib.Core.Bool.{Bool, not}
+use mathlib.Core.List.{List, [], _∷_, _++_}
+use Prim.Native.Nat.{ℕ, _+_, _-_, _*_}
+use lib.ListN.{length}
+use lib.Seq.{sets}
+use Rattle.lists.specs.Lists.{filter}
+use Rattle.bits.specs.Bits.{bitOf, unpack}
+use Rattle.fibonacci.specs.Code.{codeword}
+use Rattle.fibonacci.specs.Encoding.{Positive}
+use Rattle.wavelet.specs.Nodes.{isPrefix, prune}
+use Rattle.wavelet.specs.Bitmaps.{joined, bitmaps}
+use Rattle.wavelet.specs.Leaves.{CursorAt, Aligned}
+use Rattle.wavelet.specs.declared.Cursor.{Cursor}
+
+-- Words that have the codewords of a row's numbers, one for each
+abbrev pub AllAligned : ℕ → List ℕ → List ℕ → Type 0
+AllAligned m [] [] = Unit {0}
+AllAligned m [] (x ∷ xs) = ⊥
+AllAligned m (n ∷ row) [] = ⊥
+AllAligned m (n ∷ row) (x ∷ xs) = Aligned m n x × AllAligned m row xs
+
+-- The bit of a word after s others
+abbrev pub bitAfter : ℕ → ℕ → Bool
+bitAfter s x = bitOf x (31 - s)
+
+-- Words parted by that bit, each side in its order
+abbrev pub partitioned : ℕ → List ℕ → List ℕ
+partitioned s xs = filter (λ x. not (bitAfter s x)) xs ++ filter (bitAfter s) xs
+
+-- How many bits the bitmaps of k numbers take at most below a string of s bits
+abbrev pub room : ℕ → ℕ → ℕ
+room s k = (16 - s) * k
+
+-- What spreading words below a spot writes from bit `at` on, up to bit `end`: the bitmaps below it of any row whose numbers there the words are
+abbrev pub WritesSubtree : ℕ → ℕ → Cursor → List ℕ → ℕ → List ℕ → ℕ → List ℕ → Type 0
+WritesSubtree m N v xs at before end after =
+    (f : ℕ) (q : List Bool) (row : List ℕ) → Positive row → CursorAt m N f q v → AllAligned m (filter (λ n. isPrefix q (codeword m n)) row) xs
+    → (end ≡ at + length (joined m (prune m N f q) row)) × (unpack after ≡ sets (unpack before) at (joined m (prune m N f q) row))
+
+-- So from the front, for the whole tree: the bitmaps of any row whose numbers the words are, so many bits
+abbrev pub WritesBitmaps : ℕ → ℕ → List ℕ → List ℕ → ℕ → List ℕ → Type 0
+WritesBitmaps m N xs before bits after =
+    (row : List ℕ) → Positive row → AllAligned m row xs
+    → (bits ≡ length (bitmaps m N row)) × (unpack after ≡ sets (unpack before) 0 (bitmaps m N row))

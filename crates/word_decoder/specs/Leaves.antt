@@ -1,0 +1,45 @@
+-- Codewords taken out of a string of bits, by words of 64 of them.
+use mathlib.Core.Path.{_≡_}
+use mathlib.Core.Bool.{Bool}
+use mathlib.Core.List.{List, _++_}
+use Prim.Native.Nat.{ℕ, _≤_}
+use lib.ListN.{length, take, drop}
+use lib.Seq.{slice}
+use Rattle.lists.specs.Lists.{sum}
+use Rattle.fibonacci.specs.Encoding.{rowBits}
+use Rattle.calls.specs.Limits.{Legal, maxCount}
+use Rattle.word_decoder.specs.declared.Progress.{Progress}
+use Rattle.word_decoder.specs.declared.Segment.{Segment}
+use Rattle.word_decoder.specs.declared.SpanProgress.{SpanProgress}
+
+-- The bits of b from bit k up to bit e are those of a row, whose numbers go up to a limit
+pub record Taken (m limit : ℕ) (b : List Bool) (k e : ℕ) (row : List ℕ) : Type 0 where
+  pub bits : drop k b ≡ rowBits m row ++ drop e b
+  pub legal : Legal limit row
+  pub within : e ≤ length b
+
+-- Codewords were taken from bit k of b on, so many at most, and their numbers summed
+pub record Summed (m limit : ℕ) (b : List Bool) (k most : ℕ) (p : Segment) : Type 0 where
+  pub row : List ℕ
+  pub taken : Taken m limit b k (p .bit) row
+  pub many : length row ≡ p .taken
+  pub few : p .taken ≤ most
+  pub total : p .sum ≡ sum row
+
+-- The codewords of a row were taken from the start of b on, up to a bit, so many
+pub record DecodedPrefix (m limit : ℕ) (b : List Bool) (bit count : ℕ) (row : List ℕ) : Type 0 where
+  pub taken : Taken m limit b 0 bit row
+  pub many : length row ≡ count
+  pub most : count ≤ maxCount
+
+-- .. its numbers from one place up to but without another summed, and all of them; and the bit known where that place begins, as far as it was reached
+pub record Spanned (m limit from to : ℕ) (b : List Bool) (f : SpanProgress) : Type 0 where
+  pub row : List ℕ
+  pub decoded : DecodedPrefix m limit b (f .bit) (f .count) row
+  pub total : f .sum ≡ sum (slice from to row)
+  pub everything : f .all ≡ sum row
+  pub starts : f .start ≡ length (rowBits m (take from row))
+
+-- .. and its numbers stored in a list, which begins with them then
+abbrev pub StoredRow : ℕ → ℕ → List Bool → List ℕ → List ℕ → Progress → Type 0
+StoredRow m limit b before after f = DecodedPrefix m limit b (f .bit) (f .count) (take (f .count) after) × (length after ≡ length before)

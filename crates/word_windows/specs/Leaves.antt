@@ -1,0 +1,27 @@
+-- A word that has the next bits of a string of bits, and its first codeword.
+use mathlib.Core.Path.{_≡_}
+use mathlib.Core.Bool.{Bool, false}
+use mathlib.Core.List.{List, [], _∷_, _++_}
+use Prim.Native.Nat.{ℕ, _+_, _≤_, _<_}
+use lib.Dec.{leb}
+use lib.ListN.{length, take, drop, replicate}
+use Rattle.bits.specs.Bits.{wordBits}
+use Rattle.fibonacci.specs.Code.{leadingOnes}
+use Rattle.calls.specs.Limits.{isNumber, maxNumber}
+
+-- n is x where x is at most the largest number; else it is no number of a row
+abbrev pub ExactIfLegal : ℕ → ℕ → Type 0
+ExactIfLegal x n = (x ≤ maxNumber → n ≡ x) × (maxNumber < x → isNumber maxNumber n ≡ false)
+
+-- Where m ones in a row begin: a one at each such place of the bits
+unfoldable pub runStarts : ℕ → List Bool → List Bool
+runStarts m [] = []
+runStarts m (a ∷ b) = leb m (leadingOnes (a ∷ b)) ∷ runStarts m b
+
+-- The word w has the bits of b from bit k on, some of them, and then zeros
+pub record WindowAt (b : List Bool) (k w : ℕ) : Type 0 where
+  pub some : ℕ
+  pub others : ℕ
+  pub all : some + others ≡ 64
+  pub within : k + some ≤ length b
+  pub bits : wordBits 64 w ≡ take some (drop k b) ++ replicate others false

@@ -1,2 +1,0 @@
-pub mod Pencil
-pub mod Sentences
