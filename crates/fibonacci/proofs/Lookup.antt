@@ -1,19 +1,20 @@
 -- The tables' rule, carried to each row and to each entry.
-use mathlib.Core.Path.{_≡_, refl, sym, ap, _∙_}
-use mathlib.Core.Bool.{Bool, true, false}
-use mathlib.Core.List.{List}
+use mathlib.Core.Path.{_≡_, refl, sym, ap, ap₂, _∙_}
+use mathlib.Core.Bool.{Bool, true, false, _&&_, false≢true}
+use mathlib.Core.List.{List, [], _∷_}
 use Prim.Native.Nat.{ℕ, zero, suc, _+_, _-_, _≤_, _<_}
 use native.Mathlib.Omega.{arith}
 use native.Mathlib.Nat.{add-zero, zero-add}
 use native.Mathlib.Decide.{decLe}
-use lib.Dec.{leb}
-use lib.ListN.{getD, replicate, getD-replicate}
-use borrow.Author.Tests.{le-leb, lt-leb, leb-true, leb-false}
-use Rattle.lists.specs.Lists.{valuesFrom}
+use lib.Dec.{leb, eqb}
+use lib.ListN.{length, getD, take, replicate, getD-replicate}
+use borrow.Author.Tests.{le-leb, lt-leb, leb-true, leb-false, eqb-true}
+use Rattle.lists.specs.Lists.{sum, valuesFrom}
 use Rattle.lists.proofs.Lists.{values-at}
 use Rattle.fibonacci.specs.Code.{past, F, first}
 use Rattle.calls.specs.Limits.{maxNumber, Order}
-use Rattle.fibonacci.specs.Tables.{numberOrZero, tableRow, tableOf}
+use Rattle.calls.proofs.Checks.{both}
+use Rattle.fibonacci.specs.Tables.{recursAfter, recurs, numberOrZero, tableRow, tableOf}
 use Rattle.fibonacci.proofs.Numeration.{F-rises}
 use Rattle.fibonacci.proofs.Numbers.{first-rises}
 
@@ -69,6 +70,71 @@ number-none x p e = elim (decLe x maxNumber) [ yes h ↦ absurd (omega (arith, n
 pub number-some : (x : ℕ) → (numberOrZero x ≡ 0 → ⊥) → x ≤ maxNumber
 number-some x e = elim (decLe x maxNumber) [ yes h ↦ h | no h ↦ absurd (e (number-zero x (omega arith))) ]
 
+-- ## The recurrence, carried to each entry
+
+sum-none : (es : List ℕ) → sum es ≡ 0 → (i : ℕ) → getD es i 0 ≡ 0
+sum-none [] e i = refl
+sum-none (x ∷ es) e zero = omega arith
+sum-none (x ∷ es) e (suc i) = sum-none es (omega arith) i
+
+-- entries that are left, after F(n), F(n - 1), ..
+after-at : (m n : ℕ) (before es : List ℕ) → 1 ≤ m → before ≡ past m n → recursAfter m before es ≡ true
+    → (i : ℕ) → i < length es → getD es i 0 ≡ numberOrZero (F m (suc n + i))
+unfolding F past recursAfter
+after-at m n before [] p b e i h = absurd (omega arith)
+after-at m n before (x ∷ es) p b e i h = go (leb (sum (take m before)) maxNumber) refl (after-at m (suc n) (x ∷ before) es p)
+  where
+    next : sum (take m before) ≡ F m (suc n)
+    next = ap (λ (l : List ℕ). sum (take m l)) b
+
+    longer : x ≡ F m (suc n) → x ∷ before ≡ past m (suc n)
+    longer is = ap₂ (λ (y : ℕ) (l : List ℕ). y ∷ l) is b
+
+    at : (i : ℕ) → i < length (x ∷ es) → x ≡ F m (suc n) → F m (suc n) ≤ maxNumber
+        → ((i : ℕ) → i < length es → getD es i 0 ≡ numberOrZero (F m (suc (suc n) + i))) → getD (x ∷ es) i 0 ≡ numberOrZero (F m (suc n + i))
+    at zero h is small ih = is ∙ sym (number-kept _ small) ∙ ap (λ (k : ℕ). numberOrZero (F m k)) (sym (add-zero (suc n)))
+    at (suc i) h is small ih = let k : suc (suc n) + i ≡ suc n + suc i = omega arith in ih i (omega arith) ∙ ap (λ (k : ℕ). numberOrZero (F m k)) k
+
+    go : (v : Bool) → leb (sum (take m before)) maxNumber ≡ v
+        → (x ∷ before ≡ past m (suc n) → recursAfter m (x ∷ before) es ≡ true → (i : ℕ) → i < length es → getD es i 0 ≡ numberOrZero (F m (suc (suc n) + i)))
+        → getD (x ∷ es) i 0 ≡ numberOrZero (F m (suc n + i))
+    go true t ih =
+        let r = both (eqb x (sum (take m before))) (recursAfter m (x ∷ before) es) (rw (t, recursAfter) at e) in
+        let is : x ≡ F m (suc n) = eqb-true _ _ (r .0) ∙ next in
+        at i h is (omega (arith, leb-true (sum (take m before)) maxNumber t, next)) (ih (longer is) (r .1))
+    go false t ih =
+        let none : sum (x ∷ es) ≡ 0 = eqb-true _ _ (rw (t, recursAfter) at e) in
+        sum-none (x ∷ es) none i ∙ sym (number-zero _ (omega (arith, leb-false (sum (take m before)) maxNumber t, next, F-rises m p {j = suc n} {k = suc n + i} (omega arith))))
+
+-- an entry of a row whose own entries recur is a position value, or 0 where that is above the largest number
+pub recurs-at : (m : ℕ) (row : List ℕ) → 1 ≤ m → recurs m row ≡ true → (j : ℕ) → j < 47 → getD row j 0 ≡ numberOrZero (F m j)
+unfolding recurs F past
+recurs-at m [] p e j h = absurd (false≢true e)
+recurs-at m (x ∷ es) p e j h = at j h
+  where
+    tests : (eqb (length (x ∷ es)) 47 ≡ true) × ((eqb x 1 && recursAfter m (x ∷ replicate m 0) es) ≡ true)
+    tests = both (eqb (length (x ∷ es)) 47) (eqb x 1 && recursAfter m (x ∷ replicate m 0) es) e
+
+    rest : (eqb x 1 ≡ true) × (recursAfter m (x ∷ replicate m 0) es ≡ true)
+    rest = both (eqb x 1) (recursAfter m (x ∷ replicate m 0) es) (tests .1)
+
+    one : x ≡ F m 0
+    one = eqb-true _ _ (rest .0)
+
+    start : x ∷ replicate m 0 ≡ past m 0
+    start = ap (λ (y : ℕ). y ∷ replicate m 0) (eqb-true _ _ (rest .0))
+
+    at : (j : ℕ) → j < 47 → getD (x ∷ es) j 0 ≡ numberOrZero (F m j)
+    at zero h = one ∙ sym (number-kept (F m 0) (omega arith))
+    at (suc j) h =
+        let k : 1 + j ≡ suc j = omega arith in
+        after-at m 0 (x ∷ replicate m 0) es p start (rest .1) j (omega (arith, eqb-true (length (x ∷ es)) 47 (tests .0))) ∙ ap (λ (k : ℕ). numberOrZero (F m k)) k
+
+-- one computation over a table of tables shows it for the row of each order
+pub rows-recur : (t : List (List ℕ)) (z : List ℕ) (m : ℕ) → Order m → valuesFrom (λ m. recurs m (getD t (m - 2) z)) 2 5 ≡ replicate 5 true
+    → recurs m (getD t (m - 2) z) ≡ true
+rows-recur t z m h e = each-order (λ m. recurs m (getD t (m - 2) z)) true e m h
+
 module _ (m : ℕ) (h : Order m) where
   -- every position value up to the largest number stands in the row
   pub position-within : (j : ℕ) → F m j ≤ maxNumber → j < 47
@@ -78,8 +144,8 @@ module _ (m : ℕ) (h : Order m) where
         | no l ↦ omega arith
       ]
 
-  pub position-at : (j z : ℕ) → F m j ≤ maxNumber → getD (tableRow (F m)) j z ≡ F m j
-  position-at j z b = entry-at (F m) j z (position-within j b) ∙ number-kept (F m j) b
+  pub position-at : (row : List ℕ) → recurs m row ≡ true → (j : ℕ) → F m j ≤ maxNumber → getD row j 0 ≡ F m j
+  position-at row e j b = recurs-at m row (omega arith) e j (position-within j b) ∙ number-kept (F m j) b
 
   -- the longest codeword of a legal number has 47 bits
   pub first-within : (d : ℕ) → first m d ≤ maxNumber → d + m ≤ 47

@@ -1,8 +1,5 @@
-use mathlib.Core.Path.{ap, _∙_}
-use mathlib.Core.List.{List}
-use Prim.Native.Nat.{ℕ}
+use mathlib.Core.Path.{_∙_}
 use native.Mathlib.Omega.{arith}
-use lib.ListN.{getD}
 use borrow.Author.Needs.{needs}
 use Rattle.fibonacci.proofs.Lookup.{position-within, position-at}
 use Rattle.fibonacci.proofs.position.Statement.{statement}
@@ -21,7 +18,7 @@ returns : tie.Need-returns
 returns c =
     let a = c .before .before .args in
     let p = c .before .before .pre in
-    c .wide .ensures ∙ ap (λ (l : List ℕ). getD l (a .j) 0) (p .0 .1) ∙ position-at (a .order) (p .0 .0) (a .j) 0 (p .1)
+    c .wide .ensures ∙ position-at (a .order) (p .0 .0) _ (p .0 .1) (a .j) (p .1)
 
 pub position-spec : {M : Type 1} → statement M
 position-spec = tie.close (tie.spec mul-wide element-copy-out-wide wide-requires returns)

@@ -1,9 +1,12 @@
--- The row of the order in the table. That the table is the one of the definition is computed here, over the whole of it.
+-- The row of the order in the table. That the table's own entries recur, in every row of it, is computed here, once.
+use mathlib.Core.Path.{refl}
+use mathlib.Core.List.{[]}
 use borrow.Author.Needs.{needs}
-use Rattle.fibonacci.specs.Code.{past, F}
-use Rattle.fibonacci.specs.Tables.{numberOrZero, tableRow, tableOf}
-use Rattle.fibonacci.proofs.Lookup.{row-at}
+use Rattle.fibonacci.specs.Tables.{recursAfter, recurs}
+use Rattle.fibonacci.proofs.Lookup.{rows-recur}
 use Rattle.fibonacci.proofs.positions.Statement.{statement}
+use Rattle.fibonacci.proofs.positions.Reads as reads
+use Rattle.fibonacci.proofs.positions.Lts as lts
 use Rattle.fibonacci.proofs.positions.Tie as tie
 
 sub-i : tie.Need-sub-i
@@ -15,9 +18,11 @@ mul-result c = search needs
 array-copy-out-result : tie.Need-array-copy-out-result
 array-copy-out-result c = search needs
 
+-- (the constant stands in the function's locals where the row is copied out of it)
 returns : tie.Need-returns
-unfolding tableOf tableRow numberOrZero F past
-returns c = (c .before .pre, row-at F (c .before .args .order) _ (c .before .pre))
+returns c =
+    let table = lts.m22 reads.Pre reads.Post (c .before .args) (c .before .blocks) .1 .1 .1 .0 in
+    (c .before .pre, rows-recur table [] (c .before .args .order) (c .before .pre) (unfold recurs recursAfter in refl))
 
 pub positions-spec : {M : Type 1} → statement M
 positions-spec = tie.close (tie.spec sub-i mul-result array-copy-out-result returns)
