@@ -16,7 +16,7 @@ use Rattle.calls.specs.Calls.{accepted, refused}
 use Rattle.calls.specs.Limits.{isNumber, Order, Legal, maxNumber, checkEach}
 use Rattle.calls.proofs.Checks.{number-is, each-more, each-fault}
 use Rattle.fibonacci.proofs.Rows.{bits-append}
-use Rattle.codewords.proofs.Codewords.{body-long}
+use Rattle.fibonacci.proofs.Lookup.{codeword-short}
 
 -- a number more
 pub bits-snoc : (m : ℕ) (row : List ℕ) (n : ℕ) → rowBits m (row ++ (n ∷ [])) ≡ rowBits m row ++ codeword m n
@@ -51,7 +51,7 @@ unfolding rowBits flatten
 bits-few m [] o a = omega arith
 bits-few m (n ∷ row) o a =
     let p = number-is maxNumber n (a .0) in
-    omega (arith, length-append (codeword m n) (rowBits m row), body-long m n (size m n n 0) o (p .0) (p .1) refl, bits-few m row o (a .1))
+    omega (arith, length-append (codeword m n) (rowBits m row), codeword-short m n o (p .0) (p .1), bits-few m row o (a .1))
 
 -- ## Measuring
 

@@ -9,7 +9,7 @@ use native.Mathlib.Nat.{add-zero, zero-add, zero-mul, suc-add, two-pow-succ}
 use native.Mathlib.Decide.{decLe}
 use lib.Arith.{digits-lt}
 use lib.Dec.{leb}
-use lib.ListN.{length, length-replicate, getD, replicate, getD-replicate}
+use lib.ListN.{length, getD, replicate, getD-replicate}
 use lib.Count.{leadingZeros, leading-top}
 use lib.Pow.{pow-pos, pow-mono, pow-add, shl-exact, shl-shr, ones-lt}
 use borrow.Author.Tests.{le-leb, lt-leb, leb-true}
@@ -24,7 +24,7 @@ use Rattle.calls.specs.Limits.{maxNumber, Order}
 use Rattle.fibonacci.specs.Tables.{numberOrZero}
 use Rattle.fibonacci.proofs.Numeration.{sumDown, F-suc, sumDown-suc, sumDown-zero, sumDown-none, digits-big, digits-small, digits-append, digits-length, F-rises, F-pos}
 use Rattle.fibonacci.proofs.Numbers.{first-suc, first-rises, first-pos, F-first, codeword-size}
-use Rattle.fibonacci.proofs.Lookup.{each-order, first-within, number-kept, number-zero}
+use Rattle.fibonacci.proofs.Lookup.{each-order, codeword-bits, number-kept, number-zero}
 use Rattle.codewords.specs.Leaves.{rate, lowCount, lowWord, lowDigits, HighDigits}
 
 -- ## The bits before the last ones
@@ -84,7 +84,7 @@ reached-none m n d x l e none =
 
 -- and the guess, with one for each of the next three that is reached, is the length
 pub body-is : (m n d : ℕ) → Order m → 1 ≤ n → first m d ≤ n → n < first m (d + 4)
-    → d + bitValue (leb (first m (d + 1)) n) + bitValue (leb (first m (d + 2)) n) + bitValue (leb (first m (d + 3)) n) ≡ size m n n 0
+    → d + bitValue (leb (first m (d + 1)) n) + bitValue (leb (first m (d + 2)) n) + bitValue (leb (first m (d + 3)) n) + m ≡ length (codeword m n)
 body-is m n d o p a b =
     let s : ℕ = size m n n 0 in
     let w = codeword-size m n (omega arith) p in
@@ -96,17 +96,7 @@ body-is m n d o p a b =
       | yes l ↦ let r : first m k ≤ n = omega (arith, first-rises m l) in rw (le-leb _ _ r) (omega arith)
       | no l ↦ let r : n < first m k = omega (arith, first-rises m {j = suc s} {k = k} (omega arith)) in rw (lt-leb _ _ r) (omega arith)
     ] in
-    omega (arith, one (d + 1), one (d + 2), one (d + 3))
-
--- what it finds says how long the codeword is
-pub body-long : (m n d : ℕ) → Order m → 1 ≤ n → n ≤ maxNumber → d ≡ size m n n 0 → (length (codeword m n) ≡ d + m) × (d + m ≤ 47)
-unfolding codeword
-body-long m n d o h l e =
-    let a = codeword-size m n (omega arith) h in
-    rw e (
-      digits-length m (size m n n 0) _ (ones m) ∙ ap (λ (k : ℕ). size m n n 0 + k) (length-replicate m true),
-      first-within m o (size m n n 0) (omega (arith, a .0)),
-    )
+    omega (arith, one (d + 1), one (d + 2), one (d + 3), codeword-bits m n)
 
 -- ## The digits above the lowest
 
@@ -134,10 +124,13 @@ F-double zero n p = absurd (omega arith)
 F-double (suc m) zero p = omega (arith, F-suc (suc m) 0, sumDown-zero (suc m) (suc m) (omega arith), F-pos (suc m) 0 p)
 F-double (suc m) (suc n) p = omega (arith, F-suc (suc m) (suc n), sumDown-suc (suc m) n m, F-suc (suc m) n, sumDown-more (suc m) n m)
 
-module _ (m n d : ℕ) (o : Order m) (p : 1 ≤ n) (l : n ≤ maxNumber) (e : d ≡ size m n n 0) where
+module _ (m n d : ℕ) (o : Order m) (p : 1 ≤ n) (l : n ≤ maxNumber) (long : d + m ≡ length (codeword m n)) where
+  is : d ≡ size m n n 0
+  is = omega (arith, long, codeword-bits m n)
+
   -- what is looked up is in the tables
   first-legal : first m d ≤ n
-  first-legal = rw e (codeword-size m n (omega arith) p .0)
+  first-legal = rw is (codeword-size m n (omega arith) p .0)
 
   pub position-legal : (j : ℕ) → j ≤ d → F m j ≤ maxNumber
   position-legal j h = omega (arith, first-legal, F-first m d, F-rises m (omega arith) h)
@@ -148,11 +141,11 @@ module _ (m n d : ℕ) (o : Order m) (p : 1 ≤ n) (l : n ≤ maxNumber) (e : d 
   high-start x q =
       let f : x ≡ first m d = q ∙ number-kept (first m d) (omega (arith, first-legal)) in
       let z : m + (d - d) ≡ m = omega arith in
-      let below : n < first m (suc d) = rw e (codeword-size m n (omega arith) p .1) in
+      let below : n < first m (suc d) = rw is (codeword-size m n (omega arith) p .1) in
       rw (f, z, shifted-one m (omega arith)) (
         first-legal,
         (
-          ap (digits m d (n - first m d)) (word-ones m) ∙ ap (λ (k : ℕ). digits m k (n - first m k) (ones m)) e,
+          ap (digits m d (n - first m d)) (word-ones m) ∙ ap (λ (k : ℕ). digits m k (n - first m k) (ones m)) is,
           ones-lt m,
           omega (arith, first-legal, first-suc m d, F-rises m (omega arith) {j = d} {k = suc d} (omega arith)),
         ),

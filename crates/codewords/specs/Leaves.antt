@@ -2,12 +2,14 @@
 use mathlib.Core.Path.{_≡_}
 use mathlib.Core.Bool.{true, false}
 use mathlib.Core.List.{List, []}
-use Prim.Native.Nat.{ℕ, suc, _+_, _-_, _^_, _<_}
+use Prim.Native.Nat.{ℕ, suc, _+_, _-_, _^_, _≤_, _<_}
 use lib.Dec.{eqb}
+use lib.ListN.{length}
 use Rattle.lists.specs.Lists.{valuesFrom}
 use Rattle.bits.specs.Bits.{wordBits, wordOf}
 use Rattle.fibonacci.specs.Code.{F, digits, codeword}
 use Rattle.fibonacci.specs.Tables.{Positions, Firsts}
+use Rattle.codewords.specs.declared.Word.{Word}
 
 -- ## The guess
 
@@ -43,3 +45,9 @@ HighDigits m n d j left w =
 -- What a function knows of the tables that it is lent: the order is in use, and these are its position values, its first numbers and its low digits
 abbrev pub Tables : ℕ → List ℕ → List ℕ → List ℕ → Type 0
 Tables m positions firsts low = Positions m positions × Firsts m firsts × (low ≡ lowDigits m)
+
+-- ## The word
+
+-- A word's low bits, so many, are the codeword of n
+abbrev pub Codes : ℕ → ℕ → Word → Type 0
+Codes m n w = (wordBits (w .len) (w .bits) ≡ codeword m n) × (w .bits < 2 ^ w .len) × (w .len ≡ length (codeword m n)) × (1 ≤ w .len) × (w .len ≤ 47)

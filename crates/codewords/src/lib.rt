@@ -4,10 +4,10 @@ ghost use Prim.Native.Nat.{_+_, _-_, _^_, _≤_, _<_, min};
 ghost use lib.Dec.{leb};
 ghost use lib.ListN.{length};
 ghost use Rattle.bits.specs.Bits.{bitValue, wordBits};
-ghost use Rattle.fibonacci.specs.Code.{first, size, codeword};
+ghost use Rattle.fibonacci.specs.Code.{first, codeword};
 ghost use Rattle.calls.specs.Limits.{Order, maxNumber};
 ghost use Rattle.fibonacci.specs.Tables.{Positions, Firsts};
-ghost use Rattle.codewords.specs.Leaves.{rate, lowCount, lowDigits, HighDigits, Tables};
+ghost use Rattle.codewords.specs.Leaves.{rate, lowCount, lowDigits, HighDigits, Tables, Codes};
 
 mod tables;
 
@@ -59,7 +59,7 @@ fn one_if_reached(firsts: &[u32; 47], order: usize, d: usize, n: u64) -> usize
 // How many bits of the codeword of n stand before its last ones: the largest d whose first number is at most n.
 fn body_length(firsts: &[u32; 47], order: usize, n: u64) -> usize
     requires { ⌜ Firsts order (now firsts) × (1 ≤ n) × (n ≤ maxNumber) ⌝ }
-    ensures { λ r. ⌜ r ≡ size order n n 0 ⌝ }
+    ensures { λ r. ⌜ (r + order ≡ length (codeword order n)) × (r + order ≤ 47) ⌝ }
 {
     let d = guess(order, n);
     let one = one_if_reached(firsts, order, d + 1, n);
@@ -102,7 +102,7 @@ fn high_digits(
     d: usize,
     low: usize,
 ) -> High
-    requires { ⌜ Positions order (now positions) × Firsts order (now firsts) × (1 ≤ n) × (n ≤ maxNumber) × (d ≡ size order n n 0) ⌝ }
+    requires { ⌜ Positions order (now positions) × Firsts order (now firsts) × (1 ≤ n) × (n ≤ maxNumber) × (d + order ≡ length (codeword order n)) ⌝ }
     ensures { λ r. ⌜ HighDigits order n d (min d low) (r .left) (r .word) ⌝ }
 {
     let mut w: u64 = (1 << order) - 1;
@@ -128,7 +128,7 @@ fn word_of(
     n: u64,
     d: usize,
 ) -> u64
-    requires { ⌜ Tables order (now positions) (now firsts) (now low) × (1 ≤ n) × (n ≤ maxNumber) × (d ≡ size order n n 0) ⌝ }
+    requires { ⌜ Tables order (now positions) (now firsts) (now low) × (1 ≤ n) × (n ≤ maxNumber) × (d + order ≡ length (codeword order n)) ⌝ }
     ensures { λ r. ⌜ (wordBits (d + order) r ≡ codeword order n) × (r < 2 ^ (d + order)) ⌝ }
 {
     let count = low_count(order);
@@ -155,7 +155,7 @@ pub fn coded(
     n: u64,
 ) -> Word
     requires { ⌜ Tables order (now positions) (now firsts) (now low) × (1 ≤ n) × (n ≤ maxNumber) ⌝ }
-    ensures { λ r. ⌜ (wordBits (r .len) (r .bits) ≡ codeword order n) × (r .bits < 2 ^ r .len) × (r .len ≡ length (codeword order n)) × (1 ≤ r .len) × (r .len ≤ 47) ⌝ }
+    ensures { λ r. ⌜ Codes order n r ⌝ }
 {
     let d = body_length(firsts, order, n);
     let bits = word_of(positions, firsts, low, order, n, d);

@@ -7,16 +7,16 @@ use native.Mathlib.Omega.{arith}
 use native.Mathlib.Nat.{add-zero, zero-add}
 use native.Mathlib.Decide.{decLe}
 use lib.Dec.{leb, eqb}
-use lib.ListN.{length, getD, take, replicate, getD-replicate}
+use lib.ListN.{length, getD, take, replicate, getD-replicate, length-replicate}
 use borrow.Author.Tests.{le-leb, lt-leb, leb-true, leb-false, eqb-true}
 use Rattle.lists.specs.Lists.{sum, valuesFrom}
 use Rattle.lists.proofs.Lists.{values-at}
-use Rattle.fibonacci.specs.Code.{past, F, first}
+use Rattle.fibonacci.specs.Code.{past, F, ones, first, size, codeword}
 use Rattle.calls.specs.Limits.{maxNumber, Order}
 use Rattle.calls.proofs.Checks.{both}
 use Rattle.fibonacci.specs.Tables.{recursAfter, recurs, numberOrZero, tableRow, tableOf}
-use Rattle.fibonacci.proofs.Numeration.{F-rises}
-use Rattle.fibonacci.proofs.Numbers.{first-rises}
+use Rattle.fibonacci.proofs.Numeration.{F-rises, digits-length}
+use Rattle.fibonacci.proofs.Numbers.{first-rises, codeword-size}
 
 -- the row of an order in a table of tables
 pub row-at : (f : ℕ → ℕ → ℕ) (m : ℕ) (z : List ℕ) → Order m → getD (tableOf f) (m - 2) z ≡ tableRow (f m)
@@ -147,7 +147,7 @@ module _ (m : ℕ) (h : Order m) where
   pub position-at : (row : List ℕ) → recurs m row ≡ true → (j : ℕ) → F m j ≤ maxNumber → getD row j 0 ≡ F m j
   position-at row e j b = recurs-at m row (omega arith) e j (position-within j b) ∙ number-kept (F m j) b
 
-  -- the longest codeword of a legal number has 47 bits
+  -- no first number of a codeword of 48 bits is legal
   pub first-within : (d : ℕ) → first m d ≤ maxNumber → d + m ≤ 47
   first-within d b =
       elim (decLe (48 - m) d) [
@@ -158,3 +158,13 @@ module _ (m : ℕ) (h : Order m) where
   -- past the row every first number is above the largest number
   pub first-past : (d : ℕ) → 47 ≤ d → numberOrZero (first m d) ≡ 0
   first-past d l = number-zero (first m d) (omega (arith, first-over m h, first-rises m {j = 48 - m} {k = d} (omega arith)))
+
+-- how long a codeword is, by the search for its first number
+pub codeword-bits : (m n : ℕ) → length (codeword m n) ≡ size m n n 0 + m
+unfolding codeword
+codeword-bits m n = digits-length m (size m n n 0) _ (ones m) ∙ ap (λ (k : ℕ). size m n n 0 + k) (length-replicate m true)
+
+-- the longest codeword of a legal number has 47 bits
+pub codeword-short : (m n : ℕ) → Order m → 1 ≤ n → n ≤ maxNumber → length (codeword m n) ≤ 47
+codeword-short m n o h l =
+    omega (arith, codeword-bits m n, first-within m o (size m n n 0) (omega (arith, codeword-size m n (omega arith) h .0)))

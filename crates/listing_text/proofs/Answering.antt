@@ -16,7 +16,7 @@ use Rattle.calls.specs.Refusals.{reason}
 use Rattle.calls.specs.Calls.{Outcome, accepted, refused}
 use Rattle.calls.specs.Limits.{Legal, maxNumber, maxCount, maxBytes, Order}
 use Rattle.fibonacci.specs.Tables.{numberOrZero}
-use Rattle.codewords.proofs.Codewords.{body-long}
+use Rattle.fibonacci.proofs.Lookup.{codeword-short}
 use Rattle.encoder.specs.Writing.{write}
 use Rattle.encoder.proofs.Writing.{write-is}
 use Rattle.listing_input.specs.Input.{maxInputBytes, fields, isInput}
@@ -91,10 +91,10 @@ lines-whole : (m place total : ℕ) (row : List ℕ) → Order m → Legal maxNu
 lines-whole m place total [] o a p t = tt
 lines-whole m place total (n ∷ row) o a p t =
     let l = number-is maxNumber n (a .0) in
-    let b = body-long m n (size m n n 0) o (l .0) (l .1) refl in (
+    (
       column-number 5 place (omega arith),
       column-number 11 n (omega (arith, l .1)),
-      column-number 5 (length (codeword m n)) (omega (arith, b .0, b .1)),
+      column-number 5 (length (codeword m n)) (omega (arith, codeword-short m n o (l .0) (l .1))),
       column-number 16 (total + n) (omega (arith, l .1)),
       lines-whole m (suc place) (total + n) row o (a .1) (omega arith) (omega (arith, l .1)),
     )

@@ -10,8 +10,8 @@ use Rattle.bits.specs.Bits.{wordBits}
 use Rattle.bits.proofs.Words.{words-at, words-padded}
 use Rattle.fibonacci.specs.Code.{size, codeword}
 use Rattle.calls.specs.Limits.{Order}
+use Rattle.fibonacci.proofs.Lookup.{codeword-bits}
 use Rattle.fibonacci.proofs.Numbers.{codeword-size}
-use Rattle.codewords.proofs.Codewords.{body-long}
 use Rattle.wavelet.specs.Questions.{maxAlphabet}
 use Rattle.wavelet.specs.Leaves.{Aligned}
 use Rattle.wavelet.proofs.Cursors.{shallow}
@@ -33,7 +33,7 @@ pub aligned-short : (m n k : ℕ) → Order m → 1 ≤ n → n ≤ maxAlphabet 
 aligned-short m n k o a b e =
     let d = size m n n 0 in
     let short : d ≤ 16 = shallow m d o (omega (arith, codeword-size m n (omega arith) a .0)) in
-    omega (arith, body-long m n d o a (omega arith) refl .0)
+    omega (arith, codeword-bits m n)
 
 module _ (m n k w : ℕ) (long : k ≤ 32) (bits : wordBits k w ≡ codeword m n) (small : w < 2 ^ k) where
   -- the word, shifted to the top

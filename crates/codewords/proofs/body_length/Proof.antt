@@ -1,4 +1,6 @@
+use native.Mathlib.Omega.{arith}
 use borrow.Author.Needs.{needs}
+use Rattle.fibonacci.proofs.Lookup.{codeword-short}
 use Rattle.codewords.proofs.Codewords.{body-is}
 use Rattle.codewords.proofs.body_length.Statement.{statement}
 use Rattle.codewords.proofs.body_length.Tie as tie
@@ -37,8 +39,9 @@ returns : tie.Need-returns
 returns c =
     let z = c .before .before .before .before in
     let g = c .before .before .before .guess in
+    let long = body-is (z .args .order) (z .args .n) (g .result) (z .pre .0 .0) (z .pre .1) (g .ensures .0) (g .ensures .1) in
     rw (c .before .before .one-if-reached .ensures .0, c .before .one-if-reached2 .ensures .0, c .one-if-reached3 .ensures .0)
-    (body-is (z .args .order) (z .args .n) (g .result) (z .pre .0 .0) (z .pre .1) (g .ensures .0) (g .ensures .1))
+    (long, omega (arith, long, codeword-short _ _ (z .pre .0 .0) (z .pre .1) (z .pre .2)))
 
 pub body-length-spec : {M : Type 1} → statement M
 body-length-spec =

@@ -3,8 +3,9 @@ use Prim.Native.Nat.{ℕ, _+_, _-_, _*_, _%_, _^_, _≤_, min}
 use native.Mathlib.Omega.{arith}
 use lib.Pow.{pow-pos, pow-mono}
 use borrow.Author.Needs.{needs}
+use Rattle.fibonacci.proofs.Lookup.{codeword-short}
 use Rattle.codewords.specs.Leaves.{HighDigits}
-use Rattle.codewords.proofs.Codewords.{body-long, shifted-one, position-legal, high-start, high-more}
+use Rattle.codewords.proofs.Codewords.{shifted-one, position-legal, high-start, high-more}
 use Rattle.codewords.proofs.high_digits.Statement.{statement}
 use Rattle.codewords.proofs.high_digits.Tie as tie
 
@@ -48,7 +49,7 @@ loop-holds c =
     let same : left + 2 ^ 32 - 2 ^ 32 ≡ left = omega arith in (
       omega arith,
       omega arith,
-      omega (arith, body-long (a .order) (a .n) (a .d) (p .0 .0) (p .2) (p .3) (p .4)),
+      omega (arith, p .4, codeword-short (a .order) (a .n) (p .0 .0) (p .2) (p .3)),
       omega arith,
       omega arith,
       rw same (start c .1),

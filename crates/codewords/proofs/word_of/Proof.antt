@@ -7,13 +7,14 @@ use lib.Pow.{pow-mono}
 use borrow.Author.Needs.{needs}
 use Rattle.bits.specs.Bits.{wordBits}
 use Rattle.fibonacci.specs.Code.{codeword}
+use Rattle.fibonacci.proofs.Lookup.{codeword-short}
 use Rattle.codewords.specs.Leaves.{lowWord}
-use Rattle.codewords.proofs.Codewords.{body-long, low-at, low-few, low-within, high-end}
+use Rattle.codewords.proofs.Codewords.{low-at, low-few, low-within, high-end}
 use Rattle.codewords.proofs.word_of.Statement.{statement}
 use Rattle.codewords.proofs.word_of.Tie as tie
 
 long : (c : tie.Start) → c .args .d + c .args .order ≤ 47
-long c = let p = c .pre in body-long _ _ _ (p .0 .0 .0) (p .1) (p .2) (p .3) .1
+long c = let p = c .pre in omega (arith, p .3, codeword-short (c .args .order) (c .args .n) (p .0 .0 .0) (p .1) (p .2))
 
 few : (c : tie.After-low-count) → c .low-count .result ≤ 8
 few c = omega (arith, c .low-count .ensures, low-few (c .before .args .order) (c .before .pre .0 .0 .0))
