@@ -18,9 +18,9 @@ use Rattle.fibonacci.proofs.Rows.{numbers-bits}
 use Rattle.calls.specs.declared.Refusal.{Refusal}
 use Rattle.calls.specs.declared.Refusal.the-variants.{BadOrder, PastBuffer, BadNumber, FullRow, NoRoom}
 use Rattle.calls.specs.Calls.{Outcome, accepted, refused, buffer}
-use Rattle.calls.specs.Limits.{isOrder, Order, isNumber, maxNumber, maxCount, maxBytes}
+use Rattle.calls.specs.Limits.{isOrder, Order, isNumber, isOutside, maxNumber, maxCount, maxBytes}
 use Rattle.calls.specs.Reading.{decode}
-use Rattle.calls.proofs.Checks.{order-is, is-order, check-passed, then-passed, accepted-one}
+use Rattle.calls.proofs.Checks.{order-is, is-order, number-inside, number-outside, check-passed, then-passed, accepted-one}
 use Rattle.reading.specs.Reading.{fibonacci}
 use Rattle.reading.proofs.Decoding.{decode-is}
 use Rattle.codeword_writer.proofs.Rows.{bits-snoc}
@@ -39,27 +39,27 @@ module _ (m room : ℕ) (row : List ℕ) (n : ℕ) where
 
   pub extend-number : isNumber maxNumber n ≡ false → extend m room row n ≡ refused (BadNumber 0)
   unfolding extend
-  extend-number f = rw f refl
+  extend-number f = rw (number-outside maxNumber n f) refl
 
   module _ (legal : isNumber maxNumber n ≡ true) where
     pub extend-full : maxCount ≤ length row → extend m room row n ≡ refused FullRow
     unfolding extend
-    extend-full h = rw (legal, le-leb maxCount (length row) h) refl
+    extend-full h = rw (number-inside maxNumber n legal, le-leb maxCount (length row) h) refl
 
     module _ (less : length row < maxCount) where
       pub extend-room : room < length (encoding m (row ++ (n ∷ []))) → extend m room row n ≡ refused NoRoom
       unfolding extend
-      extend-room h = rw (legal, lt-leb maxCount (length row) less, lt-ltb room _ h) refl
+      extend-room h = rw (number-inside maxNumber n legal, lt-leb maxCount (length row) less, lt-ltb room _ h) refl
 
       pub extend-fits : length (encoding m (row ++ (n ∷ []))) ≤ room → extend m room row n ≡ accepted (length (encoding m (row ++ (n ∷ []))), suc (length row))
       unfolding extend
-      extend-fits h = rw (legal, lt-leb maxCount (length row) less, le-ltb room _ h) refl
+      extend-fits h = rw (number-inside maxNumber n legal, lt-leb maxCount (length row) less, le-ltb room _ h) refl
 
   pub extend-is : (bytes count : ℕ) → extend m room row n ≡ accepted (bytes, count)
       → (length (encoding m (row ++ (n ∷ []))) ≤ room) × (bytes ≡ length (encoding m (row ++ (n ∷ []))))
   unfolding extend
   extend-is bytes count e =
-      let p3 = check-passed (BadNumber 0) (not (isNumber maxNumber n)) _ _ e in
+      let p3 = check-passed (BadNumber 0) (isOutside maxNumber n) _ _ e in
       let p4 = check-passed FullRow (leb maxCount (length row)) _ _ (p3 .1) in
       let p5 = check-passed NoRoom (ltb room (length (encoding m (row ++ (n ∷ []))))) _ _ (p4 .1) in
       (ltb-false room _ (p5 .0), sym (ap (λ (x : ℕ × ℕ). x .0) (accepted-one (p5 .1))))

@@ -1,4 +1,5 @@
 -- Appending to an encoding (paper 01, "When a call says no": Append). The checks stand in the paper's order.
+use mathlib.Core.Path.{_≡_}
 use mathlib.Core.Bool.{not}
 use mathlib.Core.List.{List, [], _∷_, _++_}
 use Prim.Native.Nat.{ℕ, suc}
@@ -8,7 +9,7 @@ use Rattle.bits.specs.Bits.{unpack}
 use Rattle.fibonacci.specs.Encoding.{encoding, numbers}
 use Rattle.calls.specs.declared.Refusal.the-variants.{BadOrder, PastBuffer, BadNumber, FullRow, NoRoom}
 use Rattle.calls.specs.Calls.{Outcome, accepted, refused, check, andThen, buffer}
-use Rattle.calls.specs.Limits.{isOrder, isNumber, maxNumber, maxCount}
+use Rattle.calls.specs.Limits.{isOrder, isOutside, maxNumber, maxCount}
 use Rattle.calls.specs.Reading.{decode}
 use Rattle.reading.specs.Reading.{fibonacci}
 use Rattle.appender.specs.declared.AppendAnswer.{AppendAnswer}
@@ -18,7 +19,7 @@ use Rattle.appender.specs.declared.AppendAnswer.the-variants.{Appended, 
 -- the new bytes in use and the new count
 unfoldable pub extend : ℕ → ℕ → List ℕ → ℕ → Outcome (ℕ × ℕ)
 extend m room row n =
-    check (BadNumber 0) (not (isNumber maxNumber n))
+    check (BadNumber 0) (isOutside maxNumber n)
     (check FullRow (leb maxCount (length row))
     (check NoRoom (ltb room (length (encoding m (row ++ (n ∷ [])))))
     (accepted (length (encoding m (row ++ (n ∷ []))), suc (length row)))))
@@ -39,3 +40,7 @@ appendInto m before used n =
 abbrev pub appendOutcome : AppendAnswer → Outcome (ℕ × ℕ)
 appendOutcome (Appended bytes count) = accepted (bytes, count)
 appendOutcome (Refused r) = refused r
+
+-- What is promised of the answer, and of the buffer before and after
+abbrev pub AppendPromise : ℕ → List ℕ → ℕ → ℕ → AppendAnswer → List ℕ → Type 0
+AppendPromise m before used n a after = (appendOutcome a ≡ append m before used n) × (after ≡ appendInto m before used n)

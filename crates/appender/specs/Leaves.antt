@@ -6,16 +6,12 @@ use lib.ListN.{length, take}
 use Rattle.bits.specs.Bits.{wordBits, unpack}
 use Rattle.fibonacci.specs.Code.{codeword}
 use Rattle.fibonacci.specs.Encoding.{rowBits, numbers}
-use Rattle.codewords.specs.declared.Word.{Word}
+use Rattle.codewords.specs.Leaves.{Codes}
 use Rattle.calls.specs.Calls.{accepted, refused}
 use Rattle.appender.specs.Appending.{extend, append}
 use Rattle.appender.specs.declared.Extension.{Extension}
 use Rattle.appender.specs.declared.Planned.{Planned}
 use Rattle.appender.specs.declared.Planned.the-variants.{Put, Refused}
-
--- The word of a codeword
-abbrev pub Codes : ℕ → ℕ → Word → Type 0
-Codes m n w = (wordBits (w .len) (w .bits) ≡ codeword m n) × (w .bits < 2 ^ w .len) × (1 ≤ w .len) × (w .len ≤ 47)
 
 -- The codeword of n goes after the bits of a row
 abbrev pub Extends : ℕ → List ℕ → ℕ → Extension → Type 0

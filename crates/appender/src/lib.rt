@@ -1,8 +1,7 @@
 // Appending a number to an encoding of order 2 to 6.
-ghost use mathlib.Core.Path.{_≡_};
 ghost use Prim.Native.Nat.{_*_, _≤_};
 ghost use Rattle.calls.specs.Limits.{Order, maxBytes};
-ghost use Rattle.appender.specs.Appending.{append, appendInto, appendOutcome};
+ghost use Rattle.appender.specs.Appending.{AppendPromise};
 ghost use Rattle.appender.specs.Leaves.{PlansFor, Plans};
 use calls::Refusal;
 use decoder::SpanAnswer;
@@ -73,7 +72,7 @@ fn plan(order: usize, buf: &[u8], used: usize, n: u64) -> Planned
 
 // Appends a number to the encoding in the first `used` bytes of a buffer: its codeword goes to the part from the byte with the first free bit on.
 pub fn append(order: usize, buf: &mut [u8], used: usize, n: u32) -> AppendAnswer
-    ensures { λ r. ⌜ (appendOutcome r ≡ append order (now (buf .entry)) used n) × (now (buf .exit) ≡ appendInto order (now (buf .entry)) used n) ⌝ }
+    ensures { λ r. ⌜ AppendPromise order (now (buf .entry)) used n r (now (buf .exit)) ⌝ }
 {
     let planned = plan(order, buf, used, calls::wide(n));
     match planned {

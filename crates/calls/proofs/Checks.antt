@@ -1,24 +1,29 @@
 -- The checks that calls make: what it says that one is passed, that a chain of them accepts, and that each number of a row passes.
-use mathlib.Core.Path.{_≡_, refl, sym}
-use mathlib.Core.Bool.{Bool, true, false, not, _&&_, false≢true}
+use mathlib.Core.Path.{_≡_, refl, sym, _∙_}
+use mathlib.Core.Bool.{Bool, true, false, _&&_, _||_, true≢false, false≢true}
 use mathlib.Core.List.{List, [], _∷_}
 use Prim.Native.Nat.{ℕ, zero, suc, _+_, _≤_, _<_}
 use native.Mathlib.Omega.{arith}
 use native.Mathlib.Numerals.{add-one}
-use lib.Dec.{leb}
+use native.Mathlib.Decide.{decLe}
+use lib.Dec.{leb, ltb, eqb}
 use lib.ListN.{length, getD, drop}
 use lib.Seq.{drop-cons}
-use borrow.Author.Tests.{le-leb, lt-leb, leb-true, not-false}
+use borrow.Author.Tests.{le-leb, lt-leb, leb-true, le-ltb, ltb-false, ne-eqb, eqb-false}
 use Rattle.lists.specs.Lists.{All}
 use Rattle.calls.specs.declared.Refusal.{Refusal}
 use Rattle.calls.specs.Calls.{Outcome, accepted, refused, check, andThen}
-use Rattle.calls.specs.Limits.{within, isOrder, Order, isNumber, Legal, checkEach}
+use Rattle.calls.specs.Limits.{within, isOrder, Order, isNumber, Legal, isOutside, checkEach}
 
 -- ## One number
 
 pub both : (a b : Bool) → (a && b) ≡ true → (a ≡ true) × (b ≡ true)
 both true b e = (refl, e)
 both false b e = absurd (false≢true e)
+
+pub neither : (a b : Bool) → (a || b) ≡ false → (a ≡ false) × (b ≡ false)
+neither true b e = absurd (true≢false e)
+neither false b e = (refl, e)
 
 within-both : (low high x : ℕ) → within low high x ≡ true → (low ≤ x) × (x ≤ high)
 within-both low high x e = let p = both (leb low x) (leb x high) e in (leb-true low x (p .0), leb-true x high (p .1))
@@ -42,6 +47,25 @@ is-number limit n p h = simp (le-leb 1 n p, le-leb n limit h)
 pub above-number : (limit n : ℕ) → 1 ≤ n → limit < n → isNumber limit n ≡ false
 unfolding isNumber
 above-number limit n p h = simp (le-leb 1 n p, lt-leb n limit h)
+
+-- a number is legal, or it is outside
+pub number-inside : (limit n : ℕ) → isNumber limit n ≡ true → isOutside limit n ≡ false
+unfolding isOutside
+number-inside limit n e = let h = number-is limit n e in simp (ne-eqb n 0 (λ z. omega arith), le-ltb limit n (h .1))
+
+pub inside-number : (limit n : ℕ) → isOutside limit n ≡ false → isNumber limit n ≡ true
+unfolding isOutside
+inside-number limit n e =
+    let p = neither (eqb n 0) (ltb limit n) e in
+    let some : n ≡ 0 → ⊥ = eqb-false n 0 (p .0) in
+    is-number limit n (elim (decLe 1 n) [ yes h ↦ h | no h ↦ absurd (some (omega arith)) ]) (ltb-false limit n (p .1))
+
+pub number-outside : (limit n : ℕ) → isNumber limit n ≡ false → isOutside limit n ≡ true
+number-outside limit n e = go (isOutside limit n) refl
+  where
+    go : (v : Bool) → isOutside limit n ≡ v → v ≡ true
+    go true d = refl
+    go false d = absurd (false≢true (sym e ∙ inside-number limit n d))
 
 -- the numbers of a row are from 1 up
 pub positive : (limit : ℕ) (row : List ℕ) → Legal limit row → All (λ n. 1 ≤ n) row
@@ -81,9 +105,9 @@ then-passed (refused r) next x e = absurd (not-both e)
 
 -- two chains that begin with the same check refuse alike where what comes after does
 either : {A B : Type 0} (r : Refusal) (t : Bool) (x : Outcome A) (y : Outcome B) (q : Refusal) → (x ≡ refused q → y ≡ refused q)
-    → check r (not t) x ≡ refused q → check r (not t) y ≡ refused q
-either r true x y q go e = go e
-either r false x y q go e = refused-same e
+    → check r t x ≡ refused q → check r t y ≡ refused q
+either r true x y q go e = refused-same e
+either r false x y q go e = go e
 
 -- ## A part of a call that tells something of what the definition accepts
 
@@ -103,16 +127,16 @@ pub each-passed : {A : Type 0} (fault : ℕ → Refusal) (limit place : ℕ) (ro
     → checkEach fault limit place row next ≡ next
 unfolding checkEach
 each-passed fault limit place [] next a = refl
-each-passed fault limit place (n ∷ row) next a = rw (a .0) (each-passed fault limit (suc place) row next (a .1))
+each-passed fault limit place (n ∷ row) next a = rw (number-inside limit n (a .0)) (each-passed fault limit (suc place) row next (a .1))
 
 pub each-accepted : {A : Type 0} (fault : ℕ → Refusal) (limit place : ℕ) (row : List ℕ) (next : Outcome A) (x : A)
     → checkEach fault limit place row next ≡ accepted x → Legal limit row × (next ≡ accepted x)
 unfolding checkEach
 each-accepted fault limit place [] next x e = (tt, e)
 each-accepted fault limit place (n ∷ row) next x e =
-    let p = check-passed (fault place) (not (isNumber limit n)) _ x e in
+    let p = check-passed (fault place) (isOutside limit n) _ x e in
     let r = each-accepted fault limit (suc place) row next x (p .1) in
-    ((not-false _ (p .0), r .0), r .1)
+    ((inside-number limit n (p .0), r .0), r .1)
 
 -- a refusal does not hang on what comes after
 pub each-refused : {A B : Type 0} (fault : ℕ → Refusal) (limit place : ℕ) (row : List ℕ) (x : A) (r : Refusal) (next : Outcome B)
@@ -120,7 +144,7 @@ pub each-refused : {A B : Type 0} (fault : ℕ → Refusal) (limit place : ℕ) 
 unfolding checkEach
 each-refused fault limit place [] x r next e = absurd (not-both (sym e))
 each-refused fault limit place (n ∷ row) x r next e =
-    either (fault place) (isNumber limit n) _ _ r (each-refused fault limit (suc place) row x r next) e
+    either (fault place) (isOutside limit n) _ _ r (each-refused fault limit (suc place) row x r next) e
 
 -- number by number, with n at place i
 module _ (fault : ℕ → Refusal) (limit : ℕ) (row : List ℕ) (i n : ℕ) (h : i < length row) (e : n ≡ getD row i 0) where
@@ -130,8 +154,8 @@ module _ (fault : ℕ → Refusal) (limit : ℕ) (row : List ℕ) (i n : ℕ) (h
   pub each-more : {A : Type 0} (next : Outcome A) → isNumber limit n ≡ true
       → checkEach fault limit i (drop i row) next ≡ checkEach fault limit (i + 1) (drop (i + 1) row) next
   unfolding checkEach
-  each-more next q = rw (left, q, add-one)
+  each-more next q = rw (left, number-inside limit n q, add-one)
 
   pub each-fault : {A : Type 0} (next : Outcome A) → isNumber limit n ≡ false → checkEach fault limit i (drop i row) next ≡ refused (fault i)
   unfolding checkEach
-  each-fault next q = rw (left, q)
+  each-fault next q = rw (left, number-outside limit n q)

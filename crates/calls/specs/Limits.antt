@@ -1,9 +1,9 @@
 -- The limits that calls check (paper 01, "When a call says no").
 use mathlib.Core.Path.{_≡_}
-use mathlib.Core.Bool.{Bool, true, not, _&&_}
+use mathlib.Core.Bool.{Bool, true, _&&_, _||_}
 use mathlib.Core.List.{List, [], _∷_}
 use Prim.Native.Nat.{ℕ, suc, _≤_}
-use lib.Dec.{leb}
+use lib.Dec.{leb, ltb, eqb}
 use Rattle.lists.specs.Lists.{All}
 use Rattle.calls.specs.declared.Refusal.{Refusal}
 use Rattle.calls.specs.Calls.{Outcome, check}
@@ -38,8 +38,12 @@ maxCount = 4096
 abbrev pub maxBytes : ℕ
 maxBytes = 24064
 
+-- 3 and 10: a number is 0 or above the limit
+unfoldable pub isOutside : ℕ → ℕ → Bool
+isOutside limit n = eqb n 0 || ltb limit n
+
 -- The check of each number of a list from a place on; the first at fault decides
 unfoldable pub checkEach : {A : Type 0} → (ℕ → Refusal) → ℕ → ℕ → List ℕ → Outcome A → Outcome A
 checkEach fault limit place [] next = next
 checkEach fault limit place (n ∷ ns) next =
-    check (fault place) (not (isNumber limit n)) (checkEach fault limit (suc place) ns next)
+    check (fault place) (isOutside limit n) (checkEach fault limit (suc place) ns next)

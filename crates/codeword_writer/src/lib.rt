@@ -1,14 +1,13 @@
 // The codewords of a row of order 2 to 6 put into a buffer.
 ghost use mathlib.Core.Path.{_≡_};
-ghost use Prim.Native.Nat.{_≤_};
 ghost use lib.ListN.{length};
-ghost use Rattle.bits.specs.Bits.{unpack, byteCount, putAt};
+ghost use Rattle.bits.specs.Bits.{unpack, putAt};
 ghost use Rattle.fibonacci.specs.Encoding.{rowBits};
-ghost use Rattle.calls.specs.Limits.{Legal, maxNumber, maxCount};
 ghost use Rattle.codewords.specs.Leaves.{Tables};
+ghost use Rattle.codeword_writer.specs.Leaves.{Fits};
 
-// The codewords of a row from the front of a buffer. They take so many bytes, and fit, as writing has seen. While eight of those are left, a codeword is put over all eight:
-// what stands behind it is written later.
+// The codewords of a row from the front of a buffer. While eight of their bytes are left, a codeword is put over all eight: what stands behind it is written later.
+// Requires: the tables of the order, and a legal row whose encoding has so many bytes, for which there is room; writing checks these.
 pub fn put_row(
     out: &mut [u8],
     bytes: usize,
@@ -18,7 +17,7 @@ pub fn put_row(
     order: usize,
     row: &[u32],
 )
-    requires { ⌜ Tables order (now positions) (now firsts) (now low) × (length (now row) ≤ maxCount) × Legal maxNumber (now row) × (bytes ≡ byteCount (length (rowBits order (now row)))) × (bytes ≤ length (now out)) ⌝ }
+    requires { ⌜ Tables order (now positions) (now firsts) (now low) × Fits order (now row) bytes (length (now out)) ⌝ }
     ensures { λ r. ⌜ unpack (now (out .exit)) ≡ putAt 0 (rowBits order (now (row .entry))) (unpack (now (out .entry))) ⌝ }
 {
     let mut at: usize = 0;

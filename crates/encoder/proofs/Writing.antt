@@ -16,6 +16,7 @@ use Rattle.calls.specs.declared.Refusal.the-variants.{BadOrder, BadNumber, TooM
 use Rattle.calls.specs.Calls.{Outcome, accepted, refused, buffer}
 use Rattle.calls.specs.Limits.{isOrder, Order, Legal, maxNumber, maxCount, checkEach}
 use Rattle.calls.proofs.Checks.{order-is, is-order, check-passed, accepted-one, each-passed, each-accepted, each-refused}
+use Rattle.codeword_writer.specs.Leaves.{Fits}
 use Rattle.codeword_writer.proofs.Rows.{bits-few}
 use Rattle.encoder.specs.Writing.{write, writeInto}
 
@@ -104,8 +105,10 @@ module _ (m : ℕ) (row before : List ℕ) where
 
   -- what the codeword writer asks, and what it leaves
   module _ (bytes bits : ℕ) (e : accepted (bytes, bits) ≡ write m row (length before)) where
-    pub write-asks : (length row ≤ maxCount) × Legal maxNumber row × (bytes ≡ byteCount (length (rowBits m row))) × (bytes ≤ length before)
-    write-asks = let x = write-is m row (length before) bytes bits (sym e) in (x .0 .count, x .0 .legal, x .1 ∙ bytes-are m row, omega (arith, x .0 .fits, x .1))
+    pub write-asks : Fits m row bytes (length before)
+    write-asks =
+        let x = write-is m row (length before) bytes bits (sym e) in
+        record { count = x .0 .count; legal = x .0 .legal; bytes-are = x .1 ∙ bytes-are m row; within = omega (arith, x .0 .fits, x .1) }
 
     pub write-put : (after : List ℕ) → Bytes before → Bytes after → unpack after ≡ putAt 0 (rowBits m row) (unpack before) → after ≡ writeInto m row before
     unfolding encoding

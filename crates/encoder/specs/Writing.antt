@@ -1,4 +1,5 @@
 -- Writing a row (paper 01, "When a call says no": Write). The checks stand in the paper's order.
+use mathlib.Core.Path.{_≡_}
 use mathlib.Core.Bool.{not}
 use mathlib.Core.List.{List}
 use Prim.Native.Nat.{ℕ}
@@ -11,7 +12,7 @@ use Rattle.calls.specs.Limits.{isOrder, maxNumber, maxCount, checkEach}
 use Rattle.encoder.specs.declared.WriteAnswer.{WriteAnswer}
 use Rattle.encoder.specs.declared.WriteAnswer.the-variants.{Written, Refused}
 
--- Write: 1 order not 2 to 6; 4 more than 4,096 numbers; 3 a number is 0; 5 the output is shorter than the encoding; else its bytes and bits
+-- Write: 1 order not 2 to 6; 4 more than 4,096 numbers; 3 a number is 0, or above the largest number, which no number of 32 bits is; 5 the output is shorter than the encoding; else its bytes and bits
 unfoldable pub write : ℕ → List ℕ → ℕ → Outcome (ℕ × ℕ)
 write m row room =
     check BadOrder (not (isOrder m))
@@ -28,3 +29,7 @@ writeInto m row before = buffer (write m row (length before)) (encoding m row) b
 abbrev pub writeOutcome : WriteAnswer → Outcome (ℕ × ℕ)
 writeOutcome (Written bytes bits) = accepted (bytes, bits)
 writeOutcome (Refused r) = refused r
+
+-- What is promised of the answer, and of the output before and after
+abbrev pub WritePromise : ℕ → List ℕ → List ℕ → WriteAnswer → List ℕ → Type 0
+WritePromise m row before a after = (writeOutcome a ≡ write m row (length before)) × (after ≡ writeInto m row before)

@@ -7,7 +7,7 @@ ghost use Rattle.calls.specs.Calls.{accepted, countOutcome};
 ghost use Rattle.calls.specs.Limits.{maxNumber, maxCount, checkEach};
 ghost use Rattle.fibonacci.specs.Encoding.{rowBits};
 ghost use Rattle.fibonacci.specs.Tables.{Firsts};
-ghost use Rattle.encoder.specs.Writing.{write, writeInto, writeOutcome};
+ghost use Rattle.encoder.specs.Writing.{write, writeOutcome, WritePromise};
 use calls::CountAnswer;
 use calls::Refusal;
 
@@ -55,7 +55,7 @@ fn plan(firsts: &[u32; 47], order: usize, row: &[u32], room: usize) -> WriteAnsw
 
 // Writes a row.
 pub fn write(order: usize, row: &[u32], out: &mut [u8]) -> WriteAnswer
-    ensures { λ r. ⌜ (writeOutcome r ≡ write order (now (row .entry)) (length (now (out .entry)))) × (now (out .exit) ≡ writeInto order (now (row .entry)) (now (out .entry))) ⌝ }
+    ensures { λ r. ⌜ WritePromise order (now (row .entry)) (now (out .entry)) r (now (out .exit)) ⌝ }
 {
     if !calls::is_order(order) {
         return WriteAnswer::Refused(Refusal::BadOrder);

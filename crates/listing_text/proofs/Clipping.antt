@@ -1,33 +1,31 @@
 -- The numbers of the input in 32 bits: one that is too large becomes 0, and both are refused alike.
 use mathlib.Core.Path.{_≡_, refl, sym, ap, ap₂, _∙_}
-use mathlib.Core.Bool.{Bool, true, false, not, _&&_, and-false}
+use mathlib.Core.Bool.{Bool, true, false, not, _&&_, _||_, and-false, or-true}
 use mathlib.Core.List.{List, [], _∷_, map}
 use Prim.Native.Nat.{ℕ, zero, suc, _-_, _≤_}
 use native.Mathlib.Omega.{arith}
 use native.Mathlib.Decide.{decLe}
-use lib.Dec.{leb, ltb}
+use lib.Dec.{leb, ltb, eqb}
 use lib.ListN.{length, getD, take, drop, length-map}
-use borrow.Author.Tests.{lt-leb}
-use Rattle.calls.proofs.Checks.{order-is, number-is, above-number, each-accepted, each-refused}
+use borrow.Author.Tests.{lt-leb, lt-ltb}
+use Rattle.calls.proofs.Checks.{order-is, number-is, each-accepted, each-refused}
 use Rattle.calls.specs.declared.Refusal.{Refusal}
 use Rattle.calls.specs.declared.Refusal.the-variants.{BadOrder, BadNumber, TooManyNumbers}
 use Rattle.calls.specs.Calls.{Outcome, accepted, refused, check, andThen}
-use Rattle.calls.specs.Limits.{within, isOrder, isNumber, Legal, maxNumber, maxCount, checkEach}
+use Rattle.calls.specs.Limits.{within, isOrder, isOutside, Legal, maxNumber, maxCount, checkEach}
 use Rattle.fibonacci.specs.Tables.{numberOrZero}
 use Rattle.fibonacci.proofs.Lookup.{number-kept, number-zero}
 use Rattle.encoder.specs.Writing.{write}
 use Rattle.listing_lines.specs.Lines.{lines}
 use Rattle.listing_text.specs.Listing.{listingOf}
 
-number-same : (n : ℕ) → isNumber maxNumber (numberOrZero n) ≡ isNumber maxNumber n
-number-same n =
+outside-same : (n : ℕ) → isOutside maxNumber (numberOrZero n) ≡ isOutside maxNumber n
+unfolding isOutside
+outside-same n =
     elim (decLe n maxNumber) [
-      | yes h ↦ ap (isNumber maxNumber) (number-kept n h)
-      | no h ↦ ap (isNumber maxNumber) (number-zero n (omega arith)) ∙ none ∙ sym (above-number maxNumber n (omega arith) (omega arith))
+      | yes h ↦ ap (isOutside maxNumber) (number-kept n h)
+      | no h ↦ ap (isOutside maxNumber) (number-zero n (omega arith)) ∙ sym (ap (λ (t : Bool). eqb n 0 || t) (lt-ltb maxNumber n (omega arith)) ∙ or-true (eqb n 0))
     ]
-  where
-    none : isNumber maxNumber 0 ≡ false
-    none = unfold isNumber in refl
 
 order-same : (m : ℕ) → isOrder (numberOrZero m) ≡ isOrder m
 unfolding isOrder
@@ -45,7 +43,7 @@ each-same : {A : Type 0} (place : ℕ) (row : List ℕ) (next : Outcome A) → c
 unfolding checkEach
 each-same place [] next = refl
 each-same place (n ∷ row) next =
-    ap₂ (λ (t : Bool) (o : Outcome _). check (BadNumber place) (not t) o) (number-same n) (each-same (suc place) row next)
+    ap₂ (λ (t : Bool) (o : Outcome _). check (BadNumber place) t o) (outside-same n) (each-same (suc place) row next)
 
 -- ## The listing of a row
 

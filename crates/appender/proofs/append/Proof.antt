@@ -44,7 +44,7 @@ room c =
     let x = c .planned2 .given .0 .0 in
     let p = planned c in
     let w = p .1 .1 in
-    (omega (arith, append-room (a .order) (a .buf .now) (a .used) (a .n) _ _ (p .0), p .1 .0, ap length (w .0), words-length (x .word .len) (x .word .bits)), w .2)
+    (omega (arith, append-room (a .order) (a .buf .now) (a .used) (a .n) _ _ (p .0), p .1 .0, ap length (w .0), words-length (x .word .len) (x .word .bits)), w .3)
 
 sub-put-word : tie.Need-sub-put-word
 sub-put-word c = omega (arith, room (c .before .before))
@@ -59,7 +59,7 @@ put-word-requires : tie.Need-put-word-requires
 put-word-requires c κs =
     let m = c .before .before .before .before in
     let w = planned m .1 .1 in
-    (omega arith, w .2, omega (arith, w .3), w .1, omega (arith, room m))
+    (omega arith, w .3, omega (arith, w .4), w .1, omega (arith, room m))
 
 same-length : tie.Need-same-length
 same-length c = search needs

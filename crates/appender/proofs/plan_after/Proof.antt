@@ -62,7 +62,7 @@ returns-4 c = λ row l b.
     let a = e .before .before .before .args in (
       extend-fits (a .order) (a .room) row (a .n) (legal (e .before)) (omega (arith, l, e .if2 .left)) (omega (arith, longer (a .order) (a .room) row (a .n), b, w .2))
           ∙ ap₂ (λ (k n : ℕ). accepted (k, n)) (omega (arith, longer (a .order) (a .room) row (a .n), b, w .2)) (omega (arith, l)),
-      (sym b, (w .0, w .1, w .3, w .4)),
+      (sym b, w),
     )
 
 pub plan-after-spec : {M : Type 1} → statement M

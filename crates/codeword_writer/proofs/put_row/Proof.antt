@@ -31,8 +31,8 @@ module _ (c : tie.After-coded Inv-loop μ-loop) where
       let p = c .before .before .before .before .before .before .before .pre in
       let l = c .before .before .before .before .loop in
       let n = c .before .wide in (
-        omega (arith, p .3, c .coded .ensures .2, put-room (a .order) (a .row .now) (a .bytes) (l .i) (l .at) _ _ (l .inv .3) (n .result) (omega arith) (n .ensures)),
-        omega (arith, p .3, p .1, bits-few (a .order) (a .row .now) (p .0 .0 .0) (p .2)),
+        omega (arith, p .1 .bytes-are, c .coded .ensures .2, put-room (a .order) (a .row .now) (a .bytes) (l .i) (l .at) _ _ (l .inv .3) (n .result) (omega arith) (n .ensures)),
+        omega (arith, p .1 .bytes-are, p .1 .count, bits-few (a .order) (a .row .now) (p .0 .0 .0) (p .1 .legal)),
       )
 
   -- it stands in the buffer, with zeros up to bit d
@@ -70,7 +70,7 @@ coded-requires c κs =
     let a = c .before .before .before .before .before .before .args in
     let p = c .before .before .before .before .before .before .pre in
     let n = c .wide in
-    let legal = number-is maxNumber (n .result) (rw (n .ensures) (legal-at maxNumber (a .row .now) (c .before .before .before .loop .i) (p .2) (omega arith))) in
+    let legal = number-is maxNumber (n .result) (rw (n .ensures) (legal-at maxNumber (a .row .now) (c .before .before .before .loop .i) (p .1 .legal) (omega arith))) in
     (p .0, legal .0, legal .1)
 
 add-if1 : tie.Need-add-if1 Inv-loop μ-loop
@@ -139,7 +139,7 @@ returns : tie.Need-returns Inv-loop μ-loop
 returns c =
     let a = c .before .before .before .before .args in
     let l = c .before .loop in
-    put-end (a .order) (a .row .now) (a .bytes) (l .i) (l .at) (unpack (l .out)) (unpack (a .out .now)) (l .inv .3) (omega arith) (c .before .before .before .before .pre .3)
+    put-end (a .order) (a .row .now) (a .bytes) (l .i) (l .at) (unpack (l .out)) (unpack (a .out .now)) (l .inv .3) (omega arith) (c .before .before .before .before .pre .1 .bytes-are)
 
 pub put-row-spec : {M : Type 1} → statement M
 put-row-spec =

@@ -45,10 +45,7 @@ put-row-requires c κs =
     let a = p .before .before .before .before .before .before .before .before .before .args in
     let asks = write-asks (a .order) (a .row .now) (a .out .now) _ _ (planned p) in (
       (c .before .before .before .before .before .positions .ensures, p .before .before .before .before .first-numbers .ensures, c .before .before .before .before .low-digits .ensures),
-      asks .0,
-      asks .1,
-      asks .2,
-      asks .3,
+      asks,
     )
 
 returns-2 : tie.Need-returns-2
