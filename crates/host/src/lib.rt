@@ -25,7 +25,8 @@ fn number_of(r: calls::Refusal) -> u64
 // The table decoder: the encoding `s` of order 3, each number of its row into four bytes of `out`, the lowest first.
 #[no_mangle]
 pub extern "C" fn leadginger_read(s: &[u8], out: &mut [u8]) -> u64
-    ensures { λ r. ⌜ (r ≡ hostNumber (readBytes (now (s .entry)) (length (now (out .entry))))) × (now (out .exit) ≡ readBytesInto (now (s .entry)) (now (out .entry))) ⌝ }
+    ensures { λ r. ⌜ r ≡ hostNumber (readBytes (now (s .entry)) (length (now (out .entry)))) ⌝ }
+    ensures { λ r. ⌜ now (out .exit) ≡ readBytesInto (now (s .entry)) (now (out .entry)) ⌝ }
 {
     let answer = table_decoder::read_bytes(s, out);
     match answer {

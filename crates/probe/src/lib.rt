@@ -35,28 +35,32 @@ fn tell(answer: &mut [u64], a: answers::Answer)
 
 #[no_mangle]
 pub extern "C" fn probe_write(order: usize, row: &[u32], out: &mut [u8], answer: &mut [u64])
-    ensures { λ r. ⌜ (now (answer .exit) ≡ told (pair (write order (now (row .entry)) (length (now (out .entry))))) (now (answer .entry))) × (now (out .exit) ≡ writeInto order (now (row .entry)) (now (out .entry))) ⌝ }
+    ensures { λ r. ⌜ now (answer .exit) ≡ told (pair (write order (now (row .entry)) (length (now (out .entry))))) (now (answer .entry)) ⌝ }
+    ensures { λ r. ⌜ now (out .exit) ≡ writeInto order (now (row .entry)) (now (out .entry)) ⌝ }
 {
     tell(answer, answers::of_write(encoder::write(order, row, out)));
 }
 
 #[no_mangle]
 pub extern "C" fn probe_read(order: usize, s: &[u8], out: &mut [u32], answer: &mut [u64])
-    ensures { λ r. ⌜ (now (answer .exit) ≡ told (single (read order (now (s .entry)) (length (now (out .entry))))) (now (answer .entry))) × (now (out .exit) ≡ readInto order (now (s .entry)) (now (out .entry))) ⌝ }
+    ensures { λ r. ⌜ now (answer .exit) ≡ told (single (read order (now (s .entry)) (length (now (out .entry))))) (now (answer .entry)) ⌝ }
+    ensures { λ r. ⌜ now (out .exit) ≡ readInto order (now (s .entry)) (now (out .entry)) ⌝ }
 {
     tell(answer, answers::of_count(decoder::read(order, s, out)));
 }
 
 #[no_mangle]
 pub extern "C" fn probe_table_read(s: &[u8], out: &mut [u32], answer: &mut [u64])
-    ensures { λ r. ⌜ (now (answer .exit) ≡ told (single (readTable (now (s .entry)) (length (now (out .entry))))) (now (answer .entry))) × (now (out .exit) ≡ readTableInto (now (s .entry)) (now (out .entry))) ⌝ }
+    ensures { λ r. ⌜ now (answer .exit) ≡ told (single (readTable (now (s .entry)) (length (now (out .entry))))) (now (answer .entry)) ⌝ }
+    ensures { λ r. ⌜ now (out .exit) ≡ readTableInto (now (s .entry)) (now (out .entry)) ⌝ }
 {
     tell(answer, answers::of_count(table_decoder::read(s, out)));
 }
 
 #[no_mangle]
 pub extern "C" fn probe_table_read_bytes(s: &[u8], out: &mut [u8], answer: &mut [u64])
-    ensures { λ r. ⌜ (now (answer .exit) ≡ told (single (readBytes (now (s .entry)) (length (now (out .entry))))) (now (answer .entry))) × (now (out .exit) ≡ readBytesInto (now (s .entry)) (now (out .entry))) ⌝ }
+    ensures { λ r. ⌜ now (answer .exit) ≡ told (single (readBytes (now (s .entry)) (length (now (out .entry))))) (now (answer .entry)) ⌝ }
+    ensures { λ r. ⌜ now (out .exit) ≡ readBytesInto (now (s .entry)) (now (out .entry)) ⌝ }
 {
     tell(answer, answers::of_count(table_decoder::read_bytes(s, out)));
 }
@@ -69,7 +73,8 @@ pub extern "C" fn probe_append(
     n: u32,
     answer: &mut [u64],
 )
-    ensures { λ r. ⌜ (now (answer .exit) ≡ told (pair (append order (now (buf .entry)) used n)) (now (answer .entry))) × (now (buf .exit) ≡ appendInto order (now (buf .entry)) used n) ⌝ }
+    ensures { λ r. ⌜ now (answer .exit) ≡ told (pair (append order (now (buf .entry)) used n)) (now (answer .entry)) ⌝ }
+    ensures { λ r. ⌜ now (buf .exit) ≡ appendInto order (now (buf .entry)) used n ⌝ }
 {
     tell(
         answer,
@@ -102,7 +107,8 @@ pub extern "C" fn probe_build(
     out: &mut [u8],
     answer: &mut [u64],
 )
-    ensures { λ r. ⌜ (now (answer .exit) ≡ told (single (build order alphabet (now (row .entry)) (length (now (out .entry))))) (now (answer .entry))) × (now (out .exit) ≡ buildInto order alphabet (now (row .entry)) (now (out .entry))) ⌝ }
+    ensures { λ r. ⌜ now (answer .exit) ≡ told (single (build order alphabet (now (row .entry)) (length (now (out .entry))))) (now (answer .entry)) ⌝ }
+    ensures { λ r. ⌜ now (out .exit) ≡ buildInto order alphabet (now (row .entry)) (now (out .entry)) ⌝ }
 {
     tell(
         answer,
@@ -165,7 +171,8 @@ pub extern "C" fn probe_select(
 
 #[no_mangle]
 pub extern "C" fn probe_listing(input: &[u8], out: &mut [u8], answer: &mut [u64])
-    ensures { λ r. ⌜ (now (answer .exit) ≡ told (single (put (text (now (input .entry))) (length (now (out .entry))))) (now (answer .entry))) × (now (out .exit) ≡ putInto (text (now (input .entry))) (now (out .entry))) ⌝ }
+    ensures { λ r. ⌜ now (answer .exit) ≡ told (single (put (text (now (input .entry))) (length (now (out .entry))))) (now (answer .entry)) ⌝ }
+    ensures { λ r. ⌜ now (out .exit) ≡ putInto (text (now (input .entry))) (now (out .entry)) ⌝ }
 {
     tell(answer, answers::of_count(listing_text::listing(input, out)));
 }
