@@ -26,7 +26,8 @@ enum Planned {
     Refused(Refusal),
 }
 
-// The plan for a number more after a row of so many numbers and bits, in a buffer with so much room.
+// The plan for a number more after a row of so many numbers and bits, in a buffer with so much room. Requires: a legal order, and no more bits than
+// an encoding has, which `plan` shows.
 fn plan_after(order: usize, room: usize, count: usize, bits: usize, n: u64) -> Planned
     requires { ⌜ Order order × (bits ≤ 8 * maxBytes) ⌝ }
     ensures { λ r. ⌜ PlansFor order room count bits n r ⌝ }

@@ -5,7 +5,7 @@ ghost use Prim.Native.Nat.{_+_, _*_, _^_, _≤_, _<_};
 ghost use lib.ListN.{length, drop};
 ghost use Rattle.bits.specs.Bits.{wordBits, unpack, bytesOf, putTo, putAt};
 
-// The n low bytes of w, the highest first, at the front of the slice.
+// The n low bytes of w, the highest first, at the front of the slice. Requires: at most 8, and there is room, which `put_word` shows.
 fn store(s: &mut [u8], w: u64, n: usize)
     requires { ⌜ (n ≤ 8) × (n ≤ length (now s)) ⌝ }
     ensures { λ r. ⌜ now (s .exit) ≡ bytesOf n (wordBits (8 * n) w) ++ drop n (now (s .entry)) ⌝ }
@@ -16,7 +16,7 @@ fn store(s: &mut [u8], w: u64, n: usize)
     }
 }
 
-// The same with all eight bytes of w. (So written it is compiled to one store.)
+// The same with all eight bytes of w. (So written it is compiled to one store.) Requires: there is room, which `put_over` shows.
 fn store_word(s: &mut [u8], w: u64)
     requires { ⌜ 8 ≤ length (now s) ⌝ }
     ensures { λ r. ⌜ now (s .exit) ≡ bytesOf 8 (wordBits 64 w) ++ drop 8 (now (s .entry)) ⌝ }
@@ -31,7 +31,8 @@ fn store_word(s: &mut [u8], w: u64)
     s[7] = (w % 256) as u8;
 }
 
-// The first o bits of a byte, then the len low bits of word, then zeros, as the low bits of a word, width of them.
+// The first o bits of a byte, then the len low bits of word, then zeros, as the low bits of a word, width of them. Requires: they fit, and the word has no other
+// bits, which both functions below show.
 fn joined(first: u8, o: usize, word: u64, len: usize, width: usize) -> u64
     requires { ⌜ (o < 8) × (1 ≤ len) × (len ≤ 56) × (word < 2 ^ len) × (8 ≤ width) × (o + len ≤ width) × (width ≤ 64) ⌝ }
     ensures { λ r. ⌜ wordBits width r ≡ putTo o (wordBits len word) width (wordBits 8 first) ⌝ }
@@ -41,8 +42,8 @@ fn joined(first: u8, o: usize, word: u64, len: usize, width: usize) -> u64
     (kept << len | word) << pad
 }
 
-// The len low bits of word after the first o bits of the slice, then zeros to the end of the byte. The writer of codewords, which are 2 to 47 bits long,
-// calls it on the part of its buffer from the byte with the first free bit, once it has seen that they fit.
+// The len low bits of word after the first o bits of the slice, then zeros to the end of the byte. Requires: o is below 8, the word has 1 to 56 bits and no
+// others, and they fit, which the writer of codewords shows on the part of its buffer from the byte with the first free bit.
 pub fn put_word(s: &mut [u8], o: usize, word: u64, len: usize)
     requires { ⌜ (o < 8) × (1 ≤ len) × (len ≤ 56) × (word < 2 ^ len) × (o + len ≤ 8 * length (now s)) ⌝ }
     ensures { λ r. ⌜ unpack (now (s .exit)) ≡ putAt o (wordBits len word) (unpack (now (s .entry))) ⌝ }
@@ -53,8 +54,8 @@ pub fn put_word(s: &mut [u8], o: usize, word: u64, len: usize)
     store(s, all, count);
 }
 
-// The same with zeros to the end of the eighth byte, by one store. The writer of rows calls it where eight bytes of the row are left, and writes those
-// behind the word later.
+// The same with zeros to the end of the eighth byte, by one store. Requires: the same, and eight bytes, which the writer of rows shows; it writes those behind
+// the word later.
 pub fn put_over(s: &mut [u8], o: usize, word: u64, len: usize)
     requires { ⌜ (o < 8) × (1 ≤ len) × (len ≤ 56) × (word < 2 ^ len) × (8 ≤ length (now s)) ⌝ }
     ensures { λ r. ⌜ unpack (now (s .exit)) ≡ putTo o (wordBits len word) 64 (unpack (now (s .entry))) ⌝ }

@@ -19,7 +19,7 @@ pub fn bit(s: &[u8], k: usize) -> bool
     }
 }
 
-// The byte b with its bit of worth 2 ^ low set to v, with no branch by v.
+// The byte b with its bit of value 2 ^ low set to v, with no branch by v. Requires: low is below 8, which `set_bit` shows.
 fn with_bit(b: u8, low: usize, v: bool) -> u8
     requires { ⌜ low < 8 ⌝ }
     ensures { λ r. ⌜ wordBits 8 r ≡ set (wordBits 8 b) (7 - low) v ⌝ }
@@ -46,8 +46,8 @@ pub fn wide(x: u8) -> u64
     x as u64
 }
 
-// Eight bytes of the slice as a word, the first bit on top. (So written it is compiled to one load.) Whoever reads by words tests that eight
-// bytes are left.
+// Eight bytes of the slice as a word, the first bit on top. (So written it is compiled to one load.) Requires: eight bytes are left, which whoever reads by
+// words tests.
 pub fn word(s: &[u8], i: usize) -> u64
     requires { ⌜ i + 8 ≤ length (now s) ⌝ }
     ensures { λ r. ⌜ wordBits 64 r ≡ unpack (take 8 (drop i (now (s .entry)))) ⌝ }

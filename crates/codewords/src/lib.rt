@@ -38,7 +38,8 @@ fn rate(order: usize) -> usize
     }
 }
 
-// A first guess at the bits of the codeword of n before its last ones, by the length of n in bits: right, or up to three too few.
+// A first guess at the bits of the codeword of n before its last ones, by the length of n in bits: right, or up to three too few. Requires: a legal
+// order and number, as all functions below.
 fn guess(order: usize, n: u64) -> usize
     requires { ⌜ Order order × (1 ≤ n) × (n ≤ maxNumber) ⌝ }
     ensures { λ r. ⌜ (first order r ≤ n) × (n < first order (r + 4)) × (r ≤ 42) ⌝ }
@@ -75,7 +76,7 @@ fn low_count(order: usize) -> usize
     if order == 2 { 8 } else { 6 }
 }
 
-// The lowest digits of the numbers below 64: a row that a caller takes once and hands to `coded`. Every operation checks its order before.
+// The lowest digits of the numbers below 64: a row that a caller takes once and hands to `coded`. Requires: an order from 2 to 6, which every operation checks.
 pub fn low_digits(order: usize) -> [u8; 64]
     requires { ⌜ Order order ⌝ }
     ensures { λ r. ⌜ r ≡ lowDigits order ⌝ }
@@ -86,6 +87,7 @@ pub fn low_digits(order: usize) -> [u8; 64]
 
 // The greedy digit of a position of value f: 1 where f is at most what is left, else 0. What is left comes with 2^32 added, and the difference reaches 2^32
 // exactly where the digit is 1: arithmetic, as the compiler makes a branch of an `if` here, and the loop then takes twice as long.
+// Requires: both are in the range of a legal number, which `high_digits` keeps.
 fn digit(f: u64, above: u64) -> u64
     requires { ⌜ (f ≤ maxNumber) × (2 ^ 32 ≤ above) × (above ≤ 2 ^ 32 + maxNumber) ⌝ }
     ensures { λ r. ⌜ (r ≡ bitValue (leb f (above - 2 ^ 32))) × (r ≤ 1) ⌝ }
@@ -93,7 +95,7 @@ fn digit(f: u64, above: u64) -> u64
     (above - f) >> 32
 }
 
-// The digits from position d down to the one above `low`, none where d is no more than that, before the last ones. `word_of` hands on what it is called with.
+// The digits from position d down to the one above `low`, none where d is no more than that, before the last ones. Requires: what `word_of` requires.
 fn high_digits(
     positions: &[u32; 47],
     firsts: &[u32; 47],
@@ -120,6 +122,7 @@ fn high_digits(
 }
 
 // The codeword of n as a word, where d of its bits stand before its last ones: those ones, and in front of them the digits, the highest first.
+// Requires: the order's tables, a legal number, and how long its codeword is, which `body_length` gives.
 fn word_of(
     positions: &[u32; 47],
     firsts: &[u32; 47],
@@ -138,7 +141,7 @@ fn word_of(
     high.word + (digits << (d + order) >> count)
 }
 
-// How many bits the codeword of n has. Whoever asks checks the order and the number before.
+// How many bits the codeword of n has. Requires: the order's first numbers, and a legal number, which whoever asks has checked.
 pub fn bit_length(firsts: &[u32; 47], order: usize, n: u64) -> usize
     requires { ⌜ Firsts order (now firsts) × (1 ≤ n) × (n ≤ maxNumber) ⌝ }
     ensures { λ r. ⌜ (r ≡ length (codeword order n)) × (r ≤ 47) ⌝ }
@@ -146,7 +149,7 @@ pub fn bit_length(firsts: &[u32; 47], order: usize, n: u64) -> usize
     body_length(firsts, order, n) + order
 }
 
-// The codeword of n. Whoever writes it checks the order and the number before, and has the tables from above.
+// The codeword of n. Requires: the order's tables, and a legal number, which whoever writes it has checked.
 pub fn coded(
     positions: &[u32; 47],
     firsts: &[u32; 47],

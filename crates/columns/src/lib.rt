@@ -19,7 +19,8 @@ fn leader(k: u64) -> u8
     if k == 0 { b' ' } else { digit(k) }
 }
 
-// n in so many columns of a buffer, from byte `at` on, column by column from the right. Whoever prints has seen that there is room.
+// n in so many columns of a buffer, from byte `at` on, column by column from the right. Requires: there is room, which
+// whoever prints has checked.
 pub fn put(out: &mut [u8], at: usize, width: usize, n: u64)
     requires { ⌜ at + width ≤ length (now out) ⌝ }
     ensures { λ r. ⌜ now (out .exit) ≡ sets (now (out .entry)) at (column width n) ⌝ }
@@ -37,7 +38,7 @@ pub fn put(out: &mut [u8], at: usize, width: usize, n: u64)
     }
 }
 
-// A text in a buffer, from byte `at` on. Whoever prints has seen that there is room.
+// A text in a buffer, from byte `at` on. Requires: there is room, which whoever prints has checked.
 pub fn put_text(out: &mut [u8], at: usize, text: &[u8])
     requires { ⌜ at + length (now text) ≤ length (now out) ⌝ }
     ensures { λ r. ⌜ now (out .exit) ≡ sets (now (out .entry)) at (now (text .entry)) ⌝ }
@@ -54,7 +55,7 @@ fn digit_value(b: u8) -> u64
     if b < 48 { 0 } else { (b - 48) as u64 }
 }
 
-// The number that a text gives as decimal digits. Whoever reads a column knows that it is not wide.
+// The number that a text gives as decimal digits. Requires: at most 10 columns, which whoever reads a column knows.
 pub fn decimal(text: &[u8]) -> u64
     requires { ⌜ length (now text) ≤ 10 ⌝ }
     ensures { λ r. ⌜ r ≡ decimal (now (text .entry)) ⌝ }

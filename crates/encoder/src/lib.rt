@@ -16,7 +16,8 @@ pub enum WriteAnswer {
     Refused(Refusal),
 }
 
-// How many bits the codewords of a row have, if no number is 0 or above the limit.
+// How many bits the codewords of a row have, if no number is 0 or above the limit. Requires: a row that is not too long, which `plan` checks, and a limit
+// that a number can have.
 fn measure(firsts: &[u32; 47], order: usize, row: &[u32], limit: u64) -> CountAnswer
     requires { ⌜ Firsts order (now firsts) × (length (now row) ≤ maxCount) × (limit ≤ maxNumber) ⌝ }
     ensures { λ r. ⌜ countOutcome r ≡ checkEach BadNumber limit 0 (now (row .entry)) (accepted (length (rowBits order (now (row .entry))))) ⌝ }
@@ -32,7 +33,8 @@ fn measure(firsts: &[u32; 47], order: usize, row: &[u32], limit: u64) -> CountAn
     CountAnswer::Count(bits)
 }
 
-// What writing a row to an output of so many bytes answers, once the order is checked: all that is to be decided before the output may be touched.
+// What writing a row to an output of so many bytes answers: all that is to be decided before the output may be touched. Requires: the order's first numbers, for
+// which `write` checks the order.
 fn plan(firsts: &[u32; 47], order: usize, row: &[u32], room: usize) -> WriteAnswer
     requires { ⌜ Firsts order (now firsts) ⌝ }
     ensures { λ r. ⌜ writeOutcome r ≡ write order (now (row .entry)) room ⌝ }

@@ -10,7 +10,8 @@ mod tables;
 use tables::FIRST_NUMBERS;
 use tables::POSITIONS;
 
-// The position values F(0), F(1), .. of an order: a row that a caller takes once and looks values up in. Every operation checks its order before.
+// The position values F(0), F(1), .. of an order: a row that a caller takes once and looks values up in. Requires: an order from 2 to 6, which every
+// operation checks.
 pub fn positions(order: usize) -> [u32; 47]
     requires { ⌜ Order order ⌝ }
     ensures { λ r. ⌜ Positions order r ⌝ }
@@ -19,7 +20,7 @@ pub fn positions(order: usize) -> [u32; 47]
     POSITIONS[i]
 }
 
-// The first numbers of an order, by how many bits stand before the last ones. Every operation checks its order before.
+// The first numbers of an order, by how many bits stand before the last ones. Requires: an order from 2 to 6, which every operation checks.
 pub fn first_numbers(order: usize) -> [u32; 47]
     requires { ⌜ Order order ⌝ }
     ensures { λ r. ⌜ Firsts order r ⌝ }
@@ -28,8 +29,8 @@ pub fn first_numbers(order: usize) -> [u32; 47]
     FIRST_NUMBERS[i]
 }
 
-// F(j), looked up in its order's row, which the caller has from `positions`. Whoever values a digit goes only as far as a number of that length can be at
-// most 4,294,967,295; F(j) is then, too.
+// F(j), looked up in its order's row. Requires: the row that `positions` gives, and that F(j) is at most 4,294,967,295, which whoever values a digit of a number up
+// to there shows.
 pub fn position(row: &[u32; 47], order: usize, j: usize) -> u64
     requires { ⌜ Positions order (now row) × (F order j ≤ maxNumber) ⌝ }
     ensures { λ r. ⌜ r ≡ F order j ⌝ }
@@ -37,8 +38,8 @@ pub fn position(row: &[u32; 47], order: usize, j: usize) -> u64
     calls::wide(row[j])
 }
 
-// The first number whose codeword has d bits before its last ones, looked up in its order's row; 0 where it is above 4,294,967,295. The caller
-// has the row from `first_numbers`.
+// The first number whose codeword has d bits before its last ones, looked up in its order's row; 0 where it is above 4,294,967,295. Requires:
+// the row that `first_numbers` gives.
 pub fn first_number(row: &[u32; 47], order: usize, d: usize) -> u64
     requires { ⌜ Firsts order (now row) ⌝ }
     ensures { λ r. ⌜ r ≡ numberOrZero (first order d) ⌝ }

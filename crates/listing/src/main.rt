@@ -38,7 +38,7 @@ fn read(buf: &mut [u8]) -> Input
     Input::Bytes(n)
 }
 
-// The text for an input, in a buffer that has room for every one.
+// The text for an input. Requires: a buffer that has room for every text, as the program's has.
 fn print(input: &[u8], out: &mut [u8; listing_text::MAX_TEXT_BYTES]) -> usize
     requires { ⌜ length (now out) ≡ maxTextBytes ⌝ }
     ensures { λ r. ⌜ (take r (now (out .exit)) ≡ text (now (input .entry))) × (r ≤ maxTextBytes) × (length (now (out .exit)) ≡ maxTextBytes) ⌝ }

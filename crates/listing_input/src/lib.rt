@@ -1,11 +1,10 @@
 // The listing program's input (paper 01, "The listing"): lines with a number each, the first the order and the others the row.
 ghost use mathlib.Core.Path.{_≡_};
-ghost use mathlib.Core.Bool.{true};
-ghost use mathlib.Core.List.{map};
-ghost use Prim.Native.Nat.{_/_, _≤_};
-ghost use lib.ListN.{length, take};
+ghost use Prim.Native.Nat.{_≤_};
+ghost use lib.ListN.{length};
 ghost use Rattle.fibonacci.specs.Tables.{numberOrZero};
-ghost use Rattle.listing_input.specs.Input.{inputLine, fields, maxInputBytes, isInput, same};
+ghost use Rattle.listing_input.specs.Input.{inputLine, maxInputBytes, same};
+ghost use Rattle.listing_input.specs.Leaves.{Parses};
 
 // How many bytes an input has at most, and a line of it; how many lines that makes.
 pub const MAX_INPUT_BYTES: usize = 45067;
@@ -31,10 +30,11 @@ fn clip(n: u64) -> u32
     if n <= calls::MAX_NUMBER { n as u32 } else { 0 }
 }
 
-// Whether each line of the input is of the form, and there is one; the numbers then begin the list. The listing sees before that the input is not long.
+// Whether each line of the input is of the form, and there is one; the numbers then begin the list. Where a line is not, the list may hold anything: the listing
+// then prints a refusal and looks at none of it. Requires: an input that is not too long, which the listing checks.
 pub fn parse(input: &[u8], numbers: &mut [u32; LINES]) -> bool
     requires { ⌜ (length (now input) ≤ maxInputBytes) × (length (now numbers) ≡ 4097) ⌝ }
-    ensures { λ r. ⌜ (r ≡ isInput (now (input .entry))) × (r ≡ true → take (length (now (input .entry)) / 11) (now (numbers .exit)) ≡ map numberOrZero (fields (now (input .entry)))) × (length (now (numbers .exit)) ≡ 4097) ⌝ }
+    ensures { λ r. ⌜ Parses (now (input .entry)) r (now (numbers .exit)) ⌝ }
 {
     if input.len() == 0 {
         return false;

@@ -6,7 +6,7 @@ ghost use lib.Seq.{sets};
 ghost use Rattle.calls.specs.Limits.{Order, Legal, maxNumber, maxCount};
 ghost use Rattle.listing_lines.specs.Lines.{rowLine, rowLines, lines};
 
-// A number's line, from byte `at` on.
+// A number's line, from byte `at` on. Requires: there is room, as for all of the lines.
 fn put_line(out: &mut [u8], at: usize, place: u64, n: u64, bits: u64, total: u64)
     requires { ⌜ at + 38 ≤ length (now out) ⌝ }
     ensures { λ r. ⌜ now (out .exit) ≡ sets (now (out .entry)) at (rowLine place n bits total) ⌝ }
@@ -18,7 +18,7 @@ fn put_line(out: &mut [u8], at: usize, place: u64, n: u64, bits: u64, total: u64
     columns::put_text(out, at + 37, b"\n");
 }
 
-// The lines of a row, after the header.
+// The lines of a row, after the header. Requires: what `put_lines` requires.
 fn put_rows(out: &mut [u8], order: usize, row: &[u32])
     requires { ⌜ Order order × (length (now row) ≤ maxCount) × Legal maxNumber (now row) × (38 + 38 * length (now row) ≤ length (now out)) ⌝ }
     ensures { λ r. ⌜ now (out .exit) ≡ sets (now (out .entry)) 38 (rowLines order 0 0 (now (row .entry))) ⌝ }
@@ -33,7 +33,7 @@ fn put_rows(out: &mut [u8], order: usize, row: &[u32])
     }
 }
 
-// The whole listing of a row. The listing program's text has the row checked, and has seen that there is room.
+// The whole listing of a row. Requires: a legal order and row, and room for the listing, which the listing program's text checks.
 pub fn put_lines(out: &mut [u8], order: usize, row: &[u32], bytes: usize)
     requires { ⌜ Order order × (length (now row) ≤ maxCount) × Legal maxNumber (now row) × (55 + 38 * length (now row) ≤ length (now out)) ⌝ }
     ensures { λ r. ⌜ now (out .exit) ≡ sets (now (out .entry)) 0 (lines order (now (row .entry)) bytes) ⌝ }

@@ -90,8 +90,7 @@ lines-whole : (m place total : ℕ) (row : List ℕ) → Order m → Legal maxNu
     → WholeLines m place total row
 lines-whole m place total [] o a p t = tt
 lines-whole m place total (n ∷ row) o a p t =
-    let l = number-is maxNumber n (a .0) in
-    (
+    let l = number-is maxNumber n (a .0) in (
       column-number 5 place (omega arith),
       column-number 11 n (omega (arith, l .1)),
       column-number 5 (length (codeword m n)) (omega (arith, codeword-short m n o (l .0) (l .1))),

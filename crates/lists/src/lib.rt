@@ -1,4 +1,4 @@
-// Copying the first elements of one list over those of another. Whoever copies has seen that there is room.
+// Copying the first elements of one list over those of another. Requires: both lists have so many, which whoever copies has checked.
 ghost use mathlib.Core.Path.{_≡_};
 ghost use mathlib.Core.List.{_++_};
 ghost use Prim.Native.Nat.{_≤_};
