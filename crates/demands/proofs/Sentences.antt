@@ -12,12 +12,13 @@ use Rattle.bits.specs.Bits.{bitOf, wordBits, unpack, wordOf, bytesOf, byteCount
 use Rattle.bits.proofs.Packing.{pack-length}
 use Rattle.fibonacci.specs.Code.{past, F, value, first, number, size, digits, codeword}
 use Rattle.fibonacci.specs.Encoding.{rowBits, encoding, parseAfter, parse, numbers}
-use Rattle.calls.proofs.Checks.{is-order, positive}
+use Rattle.calls.proofs.Checks.{is-order, number-is, positive}
 use Rattle.calls.specs.declared.Refusal.the-variants.{TooManyNumbers, TooManyCodewords, FullRow}
 use Rattle.calls.specs.Calls.{accepted, refused}
-use Rattle.calls.specs.Limits.{Order, isOrder, isNumber, Legal, maxNumber, maxCount, checkEach}
+use Rattle.calls.specs.Limits.{Order, isOrder, isNumber, isOutside, Legal, maxNumber, maxCount, checkEach}
 use Rattle.calls.specs.Reading.{checkFinished, contents, decode}
 use Rattle.fibonacci.proofs.Rows.{encoding-read}
+use Rattle.fibonacci.proofs.Lookup.{codeword-short}
 use Rattle.reading.specs.Reading.{fibonacci, read, readInto}
 use Rattle.reading.proofs.Checking.{contents-many}
 use Rattle.reading.proofs.Decoding.{decode-contents}
@@ -86,20 +87,21 @@ module _ (m : ℕ) (o : Order m) where
   appended after =
       let s : List ℕ = encoding m (onesRow maxCount) in
       let front : take (512 * m) (s ++ after) ≡ s = ap (λ (k : ℕ). take k (s ++ after)) (sym full-bytes) ∙ take-append-seam s after in
-      let rowOfBitmaps : decode (fibonacci m) maxNumber (take (512 * m) (s ++ after)) ≡ accepted (onesRow maxCount) =
+      let found : decode (fibonacci m) maxNumber (take (512 * m) (s ++ after)) ≡ accepted (onesRow maxCount) =
       ap (decode (fibonacci m) maxNumber) front ∙ decode-encoding m (onesRow maxCount) o (omega (arith, ones-length maxCount)) (ones-legal maxCount) in
-      append-read m (s ++ after) (512 * m) 1 (is-order m o) (omega (arith, length-append s after, full-bytes)) (onesRow maxCount) rowOfBitmaps
+      append-read m (s ++ after) (512 * m) 1 (is-order m o) (omega (arith, length-append s after, full-bytes)) (onesRow maxCount) found
       ∙ extend-full m (length (s ++ after)) (onesRow maxCount) 1 refl (omega (arith, ones-length maxCount))
 
 -- ## The largest number
 
 largest-number : Largest
-unfolding answer flatten bitOf wordBits unpack wordOf bytesOf pack count past F value first number size digits codeword rowBits encoding parseAfter parse numbers isOrder isNumber checkEach checkFinished contents decode read readInto write
+unfolding answer flatten bitOf wordBits unpack wordOf bytesOf pack count past F value first number size digits codeword rowBits encoding parseAfter parse numbers isOrder isNumber isOutside checkEach checkFinished contents decode read readInto write
 largest-number = record { written = refl; read-back = refl; next = refl }
 
 pub sentences-hold : Sentences
 sentences-hold =
     record {
+      longest = λ m o n e. let h = number-is maxNumber n e in codeword-short m n o (h .0) (h .1);
       ones = λ m o. record { full = full m o; written = written m o; read-back = read-back m o; appended = appended m o };
       largest-number = largest-number;
     }

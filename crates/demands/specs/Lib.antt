@@ -2,5 +2,6 @@ pub mod Codes
 pub mod RoundTrip
 pub mod Readers
 pub mod Index
+pub mod Listing
 pub mod Pencil
 pub mod Sentences

@@ -1,16 +1,18 @@
 -- Paper 01, "Knots to check by pencil": P1 to P11 as one table, each line beside what the definitions give.
 use mathlib.Core.Path.{_≡_}
 use mathlib.Core.Bool.{Bool, true, false}
-use mathlib.Core.List.{List, [], _∷_, map}
+use mathlib.Core.List.{List, [], _∷_, _++_, map, flatten}
 use Prim.Native.Nat.{ℕ, _-_}
-use lib.ListN.{length, take, replicate}
+use lib.ListN.{length, getD, take, replicate}
+use Rattle.lists.specs.Lists.{valuesFrom}
 use Rattle.bits.specs.Bits.{bitValue}
 use Rattle.fibonacci.specs.Code.{value, first, number, codeword}
 use Rattle.calls.specs.Calls.{Outcome, accepted, answerNumber, answerResults, andThen}
 use Rattle.reading.specs.Reading.{read, readInto}
 use Rattle.totals.specs.Totals.{total}
 use Rattle.encoder.specs.Writing.{write, writeInto}
-use Rattle.wavelet.specs.Bitmaps.{bitmaps}
+use Rattle.wavelet.specs.Nodes.{tree, nodes}
+use Rattle.wavelet.specs.Bitmaps.{bitmap, bitmaps}
 use Rattle.wavelet.specs.Questions.{build, buildInto, extract, rank, select}
 
 -- What is asked: a call, with the room of its output last where it has one, or what the code itself gives
@@ -21,6 +23,7 @@ pub data Example : Type 0 where
   Read : (m : ℕ) (s : List ℕ) (room : ℕ) → Example
   Total : (m : ℕ) (s : List ℕ) (a b : ℕ) → Example
   Bitmaps : (m N : ℕ) (row : List ℕ) → Example
+  Bitmap : (m N : ℕ) (row : List ℕ) (k : ℕ) → Example
   Build : (m N : ℕ) (row : List ℕ) (room : ℕ) → Example
   Extract : (m N k : ℕ) (s : List ℕ) (i : ℕ) → Example
   Rank : (m N k : ℕ) (s : List ℕ) (n i : ℕ) → Example
@@ -39,7 +42,8 @@ one o = andThen o (λ x. accepted (x ∷ []))
 abbrev pub two : Outcome (ℕ × ℕ) → Outcome (List ℕ)
 two o = andThen o (λ x. accepted (x .0 ∷ x .1 ∷ []))
 
--- What the definitions give. Of a codeword these are its bits; of the number of a codeword the first number, the relative number and their sum
+-- What the definitions give. Of a codeword these are its bits; of the number of a codeword the first number, the relative number and their sum; of bitmaps the
+-- joined ones, or that of node k in their order
 unfoldable pub answer : Example → Answer
 answer (Codeword m n) = answers (accepted (map bitValue (codeword m n))) []
 answer (Number m w) = answers (accepted (first m (length w - m) ∷ value m 1 (take (length w - m) w) ∷ number m w ∷ [])) []
@@ -47,6 +51,7 @@ answer (Write m row room) = answers (two (write m row room)) (writeInto m row (r
 answer (Read m s room) = answers (one (read m s room)) (readInto m s (replicate room 0))
 answer (Total m s a b) = answers (one (total m s a b)) []
 answer (Bitmaps m N row) = answers (accepted (map bitValue (bitmaps m N row))) []
+answer (Bitmap m N row k) = answers (accepted (map bitValue (bitmap m row (getD (nodes (tree m N)) k [])))) []
 answer (Build m N row room) = answers (one (build m N row room)) (buildInto m N row (replicate room 0))
 answer (Extract m N k s i) = answers (two (extract m N k s i)) []
 answer (Rank m N k s n i) = answers (two (rank m N k s n i)) []
@@ -93,16 +98,30 @@ pencil =
     line (Read 2 (0xe0 ∷ []) 1) 6 [] (0 ∷ []) ∷
     -- P9 the row of P2, order 2, top 4: stream 01101 01 101, bytes 6B 40
     line (Bitmaps 2 4 row) 0 (0 ∷ 1 ∷ 1 ∷ 0 ∷ 1 ∷ 0 ∷ 1 ∷ 1 ∷ 0 ∷ 1 ∷ []) [] ∷
+    line (Bitmap 2 4 row 0) 0 (0 ∷ 1 ∷ 1 ∷ 0 ∷ 1 ∷ []) [] ∷
+    line (Bitmap 2 4 row 1) 0 (0 ∷ 1 ∷ []) [] ∷
+    line (Bitmap 2 4 row 2) 0 (1 ∷ 0 ∷ 1 ∷ []) [] ∷
     line (Build 2 4 row 2) 0 (10 ∷ []) (0x6b ∷ 0x40 ∷ []) ∷
     -- P10 on P9: extract 2 gives 4 in 2 looks; rank of 1 in the first 3 gives 1; select of 1, j = 2, gives 4; j = 3 gives 12
     line (Extract 2 4 5 (0x6b ∷ 0x40 ∷ []) 2) 0 (4 ∷ 2 ∷ []) [] ∷
     line (Rank 2 4 5 (0x6b ∷ 0x40 ∷ []) 1 3) 0 (1 ∷ 2 ∷ []) [] ∷
     line (Select 2 4 5 (0x6b ∷ 0x40 ∷ []) 1 2) 0 (4 ∷ 2 ∷ []) [] ∷
-    line (Select 2 4 5 (0x6b ∷ 0x40 ∷ []) 1 3) 12 [] [] ∷
-    -- P11 top 1, row 1, 1: no index bytes, extract 1 gives 1 in 0 looks
-    line (Build 2 1 (1 ∷ 1 ∷ []) 0) 0 (0 ∷ []) [] ∷
-    line (Extract 2 1 2 [] 1) 0 (1 ∷ 0 ∷ []) [] ∷ []
+    line (Select 2 4 5 (0x6b ∷ 0x40 ∷ []) 1 3) 12 [] [] ∷ []
+
+-- P11 top 1, row 1, 1: no index bytes, extract 1 gives 1 in 0 looks. It names no order, so it stands in the table once for each
+abbrev pub eachOrder : ℕ → List Line
+eachOrder m =
+    line (Build m 1 (1 ∷ 1 ∷ []) 0) 0 (0 ∷ []) [] ∷
+    line (Extract m 1 2 [] 1) 0 (1 ∷ 0 ∷ []) [] ∷ []
+
+-- What the orders 2 to 6 give
+abbrev pub orders : {A : Type 0} → (ℕ → A) → List A
+orders f = valuesFrom f 2 5
+
+unfoldable pub table : List Line
+unfolding flatten
+table = pencil ++ flatten (orders eachOrder)
 
 -- Every line holds
 abbrev pub Pencil : Type 0
-Pencil = map (λ l. answer (l .example)) pencil ≡ map (λ l. (l .number, l .results, l .output)) pencil
+Pencil = map (λ l. answer (l .example)) table ≡ map (λ l. (l .number, l .results, l .output)) table

@@ -1,17 +1,18 @@
--- Paper 01, the sentences under "Knots to check by pencil".
+-- Paper 01, the sentences under "Knots to check by pencil", and that on the longest codeword.
 use mathlib.Core.Path.{_≡_}
+use mathlib.Core.Bool.{true}
 use mathlib.Core.List.{List, [], _∷_, _++_}
 use Prim.Native.Nat.{ℕ, suc, _*_, _≤_}
-use lib.ListN.{replicate}
-use Rattle.lists.specs.Lists.{valuesFrom}
+use lib.ListN.{length, replicate}
+use Rattle.fibonacci.specs.Code.{codeword}
 use Rattle.fibonacci.specs.Encoding.{encoding}
 use Rattle.calls.specs.declared.Refusal.the-variants.{TooManyNumbers, TooManyCodewords, FullRow}
 use Rattle.calls.specs.Calls.{accepted, refused}
-use Rattle.calls.specs.Limits.{Order, maxNumber, maxCount}
+use Rattle.calls.specs.Limits.{Order, isNumber, maxNumber, maxCount}
 use Rattle.reading.specs.Reading.{read}
 use Rattle.encoder.specs.Writing.{write}
 use Rattle.appender.specs.Appending.{append}
-use Rattle.demands.specs.Pencil.{answer, Read}
+use Rattle.demands.specs.Pencil.{answer, Read, orders}
 
 -- A row of ones
 unfoldable pub onesRow : ℕ → List ℕ
@@ -25,10 +26,6 @@ pub record Ones (m : ℕ) : Type 0 where
   pub read-back : (room : ℕ) → read m (encoding m (onesRow (suc maxCount))) room ≡ refused TooManyCodewords
   pub appended : (after : List ℕ) → append m (encoding m (onesRow maxCount) ++ after) (512 * m) 1 ≡ refused FullRow
 
--- What the orders 2 to 6 give
-abbrev pub orders : {A : Type 0} → (ℕ → A) → List A
-orders f = valuesFrom f 2 5
-
 -- "Number 4,294,967,295 is accepted; the codeword of the next gives 7"
 pub record Largest : Type 0 where
   -- its bytes and bits in each order
@@ -38,5 +35,7 @@ pub record Largest : Type 0 where
 
 -- For every order
 pub record Sentences : Type 0 where
+  -- "The longest codeword of a legal number has 47 bits": no legal number's has more, in any order; in order 2 the largest number's has so many (below)
+  pub longest : (m : ℕ) → Order m → (n : ℕ) → isNumber maxNumber n ≡ true → length (codeword m n) ≤ 47
   pub ones : (m : ℕ) → Order m → Ones m
   pub largest-number : Largest

@@ -2,7 +2,7 @@
 use mathlib.Core.Path.{_≡_, refl, sym, ap, ap₂, _∙_}
 use mathlib.Core.Bool.{Bool, true, false, _&&_, and-false, and-assoc, false≢true}
 use mathlib.Core.List.{List, [], _∷_, _++_, append-assoc, append-nil, map, flatten}
-use Prim.Native.Nat.{ℕ, zero, suc, _+_, _-_, _*_, _/_, _^_, _<_}
+use Prim.Native.Nat.{ℕ, zero, suc, _+_, _-_, _*_, _/_, _^_, _≤_, _<_}
 use native.Mathlib.Omega.{arith}
 use native.Mathlib.Numerals.{add-one}
 use lib.Dec.{eqb, ltb}
@@ -14,7 +14,7 @@ use Rattle.columns.specs.Columns.{column, decimal}
 use Rattle.columns.proofs.Columns.{column-length, column-number, column-below}
 use Rattle.calls.proofs.Checks.{both}
 use Rattle.fibonacci.specs.Tables.{numberOrZero}
-use Rattle.listing_input.specs.Input.{inputLine, inputOf, fieldsOf, fields, same, isInput, InputForm}
+use Rattle.listing_input.specs.Input.{inputLine, inputOf, fieldsOf, fields, same, isInput}
 
 -- ## Equal lists
 
@@ -105,20 +105,21 @@ form-read : (ns : List ℕ) → All (λ n. n < 10 ^ 10) ns → fields (inputOf n
 unfolding fields
 form-read ns a = let count : length (inputOf ns) / 11 ≡ length ns = omega (arith, lines-length ns) in rw count (fields-lines ns a)
 
-pub input-form : InputForm
+-- so a text is an input exactly where it has a line for each of some numbers of up to 10 digits, at least one; and then its numbers are these
+pub lines-are : (s : List ℕ) → isInput s ≡ true → (s ≡ inputOf (fields s)) × (1 ≤ length (fields s)) × All (λ n. n < 10 ^ 10) (fields s)
 unfolding isInput
-input-form =
-    record {
-      lines-are = λ s e.
-          let p = both (ltb 0 (length s)) (same s (inputOf (fields s))) e in
-          let lines : s ≡ inputOf (fields s) = same-true s (inputOf (fields s)) (p .1) in
-          let some : 0 < length s = ltb-true 0 (length s) (p .0) in
-          (lines, omega (arith, ap length lines, lines-length (fields s)), form-below s lines);
-      are-lines = λ ns h a.
-          let read = form-read ns a in
-          let some : 0 < length (inputOf ns) = omega (arith, lines-length ns) in
-          (rw (read, lt-ltb 0 (length (inputOf ns)) some) (same-refl (inputOf ns)), read);
-    }
+lines-are s e =
+    let p = both (ltb 0 (length s)) (same s (inputOf (fields s))) e in
+    let lines : s ≡ inputOf (fields s) = same-true s (inputOf (fields s)) (p .1) in
+    let some : 0 < length s = ltb-true 0 (length s) (p .0) in
+    (lines, omega (arith, ap length lines, lines-length (fields s)), form-below s lines)
+
+pub are-lines : (ns : List ℕ) → 1 ≤ length ns → All (λ n. n < 10 ^ 10) ns → (isInput (inputOf ns) ≡ true) × (fields (inputOf ns) ≡ ns)
+unfolding isInput
+are-lines ns h a =
+    let read = form-read ns a in
+    let some : 0 < length (inputOf ns) = omega (arith, lines-length ns) in
+    (rw (read, lt-ltb 0 (length (inputOf ns)) some) (same-refl (inputOf ns)), read)
 
 -- ## Reading line by line
 

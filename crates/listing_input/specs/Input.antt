@@ -1,11 +1,9 @@
 -- The listing program's input (paper 01, "The listing").
-use mathlib.Core.Path.{_≡_}
 use mathlib.Core.Bool.{Bool, true, false, _&&_}
 use mathlib.Core.List.{List, [], _∷_, _++_, map, flatten}
-use Prim.Native.Nat.{ℕ, zero, suc, _/_, _^_, _≤_, _<_}
+use Prim.Native.Nat.{ℕ, zero, suc, _/_}
 use lib.Dec.{eqb, ltb}
 use lib.ListN.{length, take, drop}
-use Rattle.lists.specs.Lists.{All}
 use Rattle.columns.specs.Columns.{ascii, column, decimal}
 
 -- A line: a number right-justified with spaces in 10 columns, without leading zeros, and a line feed
@@ -39,8 +37,3 @@ same (x ∷ xs) (y ∷ ys) = eqb x y && same xs ys
 -- There is a line, and each is of the form: the text is that which has a line for each of its numbers
 unfoldable pub isInput : List ℕ → Bool
 isInput s = ltb 0 (length s) && same s (inputOf (fields s))
-
--- So a text is an input exactly where it has a line for each of some numbers of up to 10 digits, at least one; and then its numbers are these
-pub record InputForm : Type 0 where
-  pub lines-are : (s : List ℕ) → isInput s ≡ true → (s ≡ inputOf (fields s)) × (1 ≤ length (fields s)) × All (λ n. n < 10 ^ 10) (fields s)
-  pub are-lines : (ns : List ℕ) → 1 ≤ length ns → All (λ n. n < 10 ^ 10) ns → (isInput (inputOf ns) ≡ true) × (fields (inputOf ns) ≡ ns)

@@ -1,29 +1,26 @@
--- What is printed, check by check; that it is not long, and that no digit is cut off.
+-- What is printed, check by check; that it is not long.
 use mathlib.Core.Path.{_≡_, refl, ap, ap₂, _∙_}
 use mathlib.Core.Bool.{true, false, not}
-use mathlib.Core.List.{List, [], _∷_, map}
-use Prim.Native.Nat.{ℕ, suc, _+_, _-_, _*_, _/_, _≤_, _<_}
+use mathlib.Core.List.{List, map}
+use Prim.Native.Nat.{ℕ, _-_, _/_, _≤_, _<_}
 use native.Mathlib.Omega.{arith}
 use lib.Dec.{ltb}
 use lib.ListN.{length, getD, take, drop}
 use borrow.Author.Tests.{lt-ltb, le-ltb}
-use Rattle.columns.proofs.Columns.{column-number}
-use Rattle.fibonacci.specs.Code.{size, codeword}
-use Rattle.calls.proofs.Checks.{number-is, check-passed, then-passed, accepted-one}
+use Rattle.calls.proofs.Checks.{check-passed, then-passed, accepted-one}
 use Rattle.calls.specs.declared.Refusal.{Refusal}
 use Rattle.calls.specs.declared.Refusal.the-variants.{TooMuchInput, BadLine}
 use Rattle.calls.specs.Refusals.{reason}
 use Rattle.calls.specs.Calls.{Outcome, accepted, refused}
-use Rattle.calls.specs.Limits.{Legal, maxNumber, maxCount, maxBytes, Order}
+use Rattle.calls.specs.Limits.{maxNumber, maxBytes}
 use Rattle.fibonacci.specs.Tables.{numberOrZero}
-use Rattle.fibonacci.proofs.Lookup.{codeword-short}
 use Rattle.encoder.specs.Writing.{write}
 use Rattle.encoder.proofs.Writing.{write-is}
 use Rattle.listing_input.specs.Input.{maxInputBytes, fields, isInput}
 use Rattle.listing_lines.specs.Lines.{lines}
 use Rattle.listing_lines.proofs.Lines.{lines-length}
-use Rattle.listing_text.specs.Listing.{refusalLine, listingOf, listing, printed, text, maxTextBytes, TextFits, WholeLines, NothingCut}
-use Rattle.listing_input.proofs.Input.{fields-length, input-form}
+use Rattle.listing_text.specs.Listing.{refusalLine, listingOf, listing, printed, text, maxTextBytes}
+use Rattle.listing_input.proofs.Input.{fields-length, lines-are}
 use Rattle.listing_text.proofs.Clipping.{listing-same, order-row, number-below}
 use Rattle.listing_text.proofs.Printing.{refusal-length}
 
@@ -56,7 +53,7 @@ module _ (s : List ℕ) where
   pub text-row : (numbers : List ℕ) → length s ≤ maxInputBytes → isInput s ≡ true → take (length s / 11) numbers ≡ map numberOrZero (fields s)
       → (1 ≤ length s / 11) × (getD numbers 0 0 ≤ maxNumber) × (printed (listingOf (getD numbers 0 0) (take (length s / 11 - 1) (drop 1 numbers))) ≡ text s)
   text-row numbers h q e =
-      let some = input-form .lines-are s q .1 in
+      let some = lines-are s q .1 in
       let count : 1 ≤ length s / 11 = omega (arith, fields-length s) in
       let r = order-row (length s / 11) numbers (fields s) count some e in (
         count,
@@ -73,7 +70,7 @@ list-fits m row t e =
     let w = write-is m row maxBytes (p .0 .0) (p .0 .1) (p .1) in
     omega (arith, ap length (accepted-one (p .2)), lines-length m row (p .0 .0), w .0 .count)
 
-pub text-fits : TextFits
+pub text-fits : (s : List ℕ) → length (text s) ≤ maxTextBytes
 unfolding text listing
 text-fits s = by (listing s) refl
   where
@@ -83,22 +80,3 @@ text-fits s = by (listing s) refl
         let p4 = check-passed TooMuchInput (ltb maxInputBytes (length s)) _ t e in
         let p13 = check-passed BadLine (not (isInput s)) _ t (p4 .1) in
         list-fits _ _ t (p13 .1)
-
--- ## Digits
-
-lines-whole : (m place total : ℕ) (row : List ℕ) → Order m → Legal maxNumber row → place + length row ≤ maxCount → total ≤ maxNumber * place
-    → WholeLines m place total row
-lines-whole m place total [] o a p t = tt
-lines-whole m place total (n ∷ row) o a p t =
-    let l = number-is maxNumber n (a .0) in (
-      column-number 5 place (omega arith),
-      column-number 11 n (omega (arith, l .1)),
-      column-number 5 (length (codeword m n)) (omega (arith, codeword-short m n o (l .0) (l .1))),
-      column-number 16 (total + n) (omega (arith, l .1)),
-      lines-whole m (suc place) (total + n) row o (a .1) (omega arith) (omega (arith, l .1)),
-    )
-
-pub nothing-cut : NothingCut
-nothing-cut m row bytes bits e =
-    let w = write-is m row maxBytes bytes bits e in
-    (lines-whole m 0 0 row (w .0 .order) (w .0 .legal) (omega (arith, w .0 .count)) (omega arith), column-number 11 bytes (omega (arith, w .0 .fits, w .1)))

@@ -57,24 +57,6 @@ putInto t before = buffer (put t (length before)) t before
 abbrev pub Puts : List ℕ → List ℕ → CountAnswer → List ℕ → Type 0
 Puts t before answer after = (countOutcome answer ≡ put t (length before)) × (after ≡ putInto t before)
 
--- ## What holds of every text
-
--- No text is longer than this: the header, a line for each number of the longest row, and the last line
+-- How many bytes a text has at most: the header, a line for each number of the longest row, and the last line
 abbrev pub maxTextBytes : ℕ
 maxTextBytes = 155703
-
-abbrev pub TextFits : Type 0
-TextFits = (s : List ℕ) → length (text s) ≤ maxTextBytes
-
--- A number is whole in its columns: they give it back
-abbrev pub Whole : ℕ → ℕ → Type 0
-Whole w n = decimal (column w n) ≡ n
-
-abbrev pub WholeLines : ℕ → ℕ → ℕ → List ℕ → Type 0
-WholeLines m place total [] = Unit {0}
-WholeLines m place total (n ∷ ns) =
-    Whole 5 place × Whole 11 n × Whole 5 (length (codeword m n)) × Whole 16 (total + n) × WholeLines m (suc place) (total + n) ns
-
--- No column of a listing cuts a digit off
-abbrev pub NothingCut : Type 0
-NothingCut = (m : ℕ) (row : List ℕ) (bytes bits : ℕ) → write m row maxBytes ≡ accepted (bytes, bits) → WholeLines m 0 0 row × Whole 11 bytes
