@@ -1,7 +1,7 @@
 -- What holds of the row index for every order m and alphabet N (paper 01, "The row index"; demand 2: the index answers what the row itself would answer).
 use mathlib.Core.Path.{_≡_}
 use mathlib.Core.Bool.{Bool, true, false, not}
-use mathlib.Core.List.{List, [], _∷_, _++_}
+use mathlib.Core.List.{List, [], _∷_, _++_, List·Mem, List·Nodup}
 use mathlib.Core.Logic.{_↔_}
 use Prim.Native.Nat.{ℕ, suc, _≤_}
 use lib.Dec.{leb, ltb, eqb}
@@ -11,14 +11,14 @@ use Rattle.fibonacci.specs.Code.{ones, runs, number}
 use Rattle.calls.specs.declared.Refusal.the-variants.{BadPlace, BadUse, OutsideAlphabet, TooFewUses}
 use Rattle.calls.specs.Calls.{accepted, check}
 use Rattle.calls.specs.Limits.{isNumber, Legal}
-use Rattle.wavelet.specs.Nodes.{In, Once, isNode, tree, nodes, visits}
+use Rattle.wavelet.specs.Nodes.{isNode, tree, nodes, visits}
 use Rattle.wavelet.specs.Bitmaps.{index, isIndex, rowOfIndex}
 use Rattle.wavelet.specs.Questions.{checkTree, rankIn, selectIn, extract, rank, select}
 
 pub record IndexDemand (m N : ℕ) : Type 0 where
   -- 1. The tree's nodes are the paper's, each once, and there are N - 1
-  pub nodes-are : (p : List Bool) → In p (nodes (tree m N)) ↔ (isNode m N p ≡ true)
-  pub nodes-once : Once (nodes (tree m N))
+  pub nodes-are : (p : List Bool) → List·Mem p (nodes (tree m N)) ↔ (isNode m N p ≡ true)
+  pub nodes-once : List·Nodup (nodes (tree m N))
   pub node-count : suc (length (nodes (tree m N))) ≡ N
   -- they are the digits of the codewords of 2 .. N
   pub node-digits : (p : List Bool) → (isNode m N p ≡ true) ↔ ((runs m p ≡ 0) × (number m (p ++ (false ∷ ones m)) ≤ N))

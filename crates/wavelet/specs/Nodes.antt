@@ -1,5 +1,4 @@
 -- The nodes of the row index (paper 01, "The row index"; source 000, section 4: the pruned Wavelet tree), for any order m and any alphabet 1 .. N.
-use mathlib.Core.Path.{_≡_}
 use mathlib.Core.Bool.{Bool, true, false, _&&_}
 use mathlib.Core.List.{List, [], _∷_, _++_}
 use Prim.Native.Nat.{ℕ, zero, suc, _+_}
@@ -63,12 +62,3 @@ visitsIn m t n = length (filter (λ p. isPrefix p (codeword m n)) (nodes t))
 -- The visits of a number (paper 01: looks): how many nodes begin its codeword
 unfoldable pub visits : ℕ → ℕ → ℕ → ℕ
 visits m N n = visitsIn m (tree m N) n
-
--- p is one of a list's strings
-abbrev pub In : List Bool → List (List Bool) → Type 0
-In p ps = (a : List (List Bool)) × (b : List (List Bool)) × (ps ≡ a ++ (p ∷ b))
-
--- No string stands twice in a list
-abbrev pub Once : List (List Bool) → Type 0
-Once [] = Unit {0}
-Once (p ∷ ps) = (In p ps → ⊥) × Once ps
