@@ -11,7 +11,8 @@ use native.Mathlib.Omega.{arith}
 use native.Mathlib.Decide.{decLe}
 use lib.ListN.{length, getD, take, drop, length-append, replicate-append-replicate, List·getD-append}
 use lib.Seq.{take-at}
-use Rattle.lists.specs.Lists.{valuesFrom, All, filter}
+use Rattle.lists.specs.Lists.{valuesFrom, filter}
+use Rattle.lists.proofs.Members.{all-in}
 use Rattle.bits.specs.Bits.{sameBit, bitValue}
 use Rattle.fibonacci.specs.Code.{ones, runs, Codeword, value, number, codeword}
 use Rattle.calls.proofs.Checks.{both}
@@ -340,11 +341,6 @@ node-digits m N k h p = (
 )
 
 -- ## Each once
-
--- what holds of all, of each
-all-in : (P : List Bool → Type 0) (p : List Bool) (l : List (List Bool)) → All P l → List·Memᴰ p l → P p
-all-in P p [] x i = absurd (List·Memᴰ·not-nil i)
-all-in P p (r ∷ l) x i = ⊎-elim (λ (e : p ≡ r). subst P (sym e) (x .0)) (all-in P p l (x .1)) (List·Memᴰ·cases-cons i)
 
 -- no string begins with itself and a bit more
 no-longer : (p : List Bool) (a : Bool) → isPrefix (p ++ (a ∷ [])) p ≡ true → ⊥

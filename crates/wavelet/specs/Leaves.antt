@@ -5,10 +5,11 @@ use mathlib.Core.List.{List, _∷_, _++_}
 use Prim.Native.Nat.{ℕ, suc, _+_, _-_, _*_, _≤_, _<_, min}
 use lib.Dec.{leb, ltb}
 use lib.ListN.{length, getD, drop}
+use Rattle.lists.specs.Lists.{filter}
 use Rattle.bits.specs.Bits.{bitOf, unpack}
 use Rattle.fibonacci.specs.Code.{F, ones, Codeword, first, number, codeword}
 use Rattle.fibonacci.specs.Tables.{Positions}
-use Rattle.wavelet.specs.Nodes.{Tree, prune}
+use Rattle.wavelet.specs.Nodes.{isPrefix, Tree, prune, nodes}
 use Rattle.wavelet.specs.Bitmaps.{need, exact}
 use Rattle.wavelet.specs.Questions.{maxAlphabet}
 use Rattle.wavelet.specs.declared.Cursor.{Cursor}
@@ -76,6 +77,10 @@ Starts m N v k e s at true r = Ends m N (sideOf m v false) (k - e) s (at + k) r
 abbrev pub Closes : ℕ → ℕ → Cursor → ℕ → List ℕ → ℕ → Bool → ℕ → Type 0
 Closes m N v e s at false r = Ends m N (sideOf m v true) e s at r
 Closes m N v e s at true r = r ≡ at
+
+-- How many nodes of a tree begin the codeword of n; in the whole tree these are the visits of n, which is a law (`visits-tree`)
+abbrev pub visitsIn : ℕ → Tree → ℕ → ℕ
+visitsIn m t n = length (filter (λ p. isPrefix p (codeword m n)) (nodes t))
 
 -- x has the bits of the codeword of n from the top of 32 bits on, and then zeros
 abbrev pub Aligned : ℕ → ℕ → ℕ → Type 0

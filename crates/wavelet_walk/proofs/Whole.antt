@@ -24,7 +24,8 @@ use Rattle.wavelet.specs.declared.Cursor.{Cursor}
 use Rattle.wavelet.specs.declared.QuestionAnswer.the-variants.{Answered, Refused}
 use Rattle.wavelet.proofs.Trees.{row-length}
 use Rattle.wavelet.proofs.Sides.{node-need}
-use Rattle.wavelet.proofs.Answering.{at-root, index-is, index-end, ask-not, ask-next}
+use Rattle.wavelet.proofs.Visits.{visits-tree}
+use Rattle.wavelet.proofs.Answering.{legal-order, legal-alphabet, at-root, index-is, index-end, ask-not, ask-next}
 use Rattle.wavelet_walk.specs.Leaves.{Askable, Arrived, Finds, Tells, Walks}
 use Rattle.wavelet_walk.specs.declared.Question.{Question}
 use Rattle.wavelet_walk.specs.declared.Question.the-variants.{Extract, Rank, Select}
@@ -40,10 +41,10 @@ clip i k l e =
     ]
 
 -- what the row answers, from what the walk has found in it
-module _ (m N k : ℕ) (s : List ℕ) (x : ℕ) (r : Walked) (long : length (rowOfIndex m N k s) ≡ k) where
+module _ {m N k : ℕ} (p : Passed m N k) (s : List ℕ) (x : ℕ) (r : Walked) (long : length (rowOfIndex m N k s) ≡ k) where
   visited : (question : Question) (j c : ℕ) (a : Arrived m N [] (tree m N) (unpack s) k question x j 0 r) → a .number ≡ c → r .visits ≡ visits m N c
-  unfolding visits
-  visited question j c a e = a .visited ∙ zero-add _ ∙ ap (visits m N) e
+  visited question j c a e =
+      a .visited ∙ zero-add _ ∙ sym (visits-tree m N (omega (arith, legal-order p)) (legal-alphabet p .0) (a .number)) ∙ ap (visits m N) e
 
   tells : (question : Question) (n i : ℕ) → Arrived m N [] (tree m N) (unpack s) k question x (min i k) 0 r → (isNumber N n ≡ true → Aligned m n x)
       → Askable question N k n i → Tells m N (rowOfIndex m N k s) question n i (r .result) (r .visits)
@@ -97,5 +98,5 @@ module _ {m N k : ℕ} (p : Passed m N k) (s : List ℕ) (v : Cursor) (root : Ro
     walk-whole aligned = (
       λ next. sym (ask-next p s next (index ∙ e)),
       whole-length,
-      λ legal. tells m N k s x r whole-length question n i arrived aligned legal,
+      λ legal. tells p s x r whole-length question n i arrived aligned legal,
     )

@@ -8,10 +8,10 @@ use Rattle.bits.specs.Bits.{bitOf, unpack, count, selectBit}
 use Rattle.calls.specs.Calls.{Outcome, refused}
 use Rattle.calls.specs.Limits.{isNumber}
 use Rattle.fibonacci.specs.Code.{codeword}
-use Rattle.wavelet.specs.Nodes.{isPrefix, Tree, prune, visitsIn, visits}
+use Rattle.wavelet.specs.Nodes.{isPrefix, Tree, prune, visits}
 use Rattle.wavelet.specs.Bitmaps.{rowOfBitmaps, rowOfIndex}
 use Rattle.wavelet.specs.Questions.{uses, rankIn, ask}
-use Rattle.wavelet.specs.Leaves.{CursorAt, Ends, Aligned}
+use Rattle.wavelet.specs.Leaves.{CursorAt, Ends, visitsIn, Aligned}
 use Rattle.wavelet.specs.declared.Cursor.{Cursor}
 use Rattle.wavelet.specs.declared.QuestionAnswer.{QuestionAnswer}
 use Rattle.wavelet.specs.declared.QuestionAnswer.the-variants.{Answered, Refused}
