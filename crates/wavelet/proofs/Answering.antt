@@ -14,15 +14,15 @@ use Rattle.calls.specs.declared.Refusal.{Refusal}
 use Rattle.calls.specs.declared.Refusal.the-variants.{BadOrder, TooManyNumbers, BadAlphabet, NotAnIndex}
 use Rattle.calls.specs.Calls.{Outcome, accepted, refused, check}
 use Rattle.calls.specs.Limits.{isOrder, isNumber, maxCount, Order}
-use Rattle.fibonacci.specs.Code.{first}
 use Rattle.wavelet.specs.Nodes.{tree}
-use Rattle.wavelet.specs.Bitmaps.{need, isIndex}
+use Rattle.wavelet.specs.Bitmaps.{need, exact, isIndex}
 use Rattle.wavelet.specs.Questions.{maxAlphabet, checkTree, ask}
-use Rattle.wavelet.specs.Leaves.{CursorAt, Low, ends, Ends, Aligned, Exact, maxIndexBytes, Root}
+use Rattle.wavelet.specs.Leaves.{CursorAt, IsCursor, ends, Ends, Aligned, maxIndexBytes, Root}
 use Rattle.wavelet.specs.Answers.{Passed}
 use Rattle.wavelet.specs.declared.Cursor.{Cursor}
 use Rattle.wavelet.proofs.Pruned.{cursor-root}
 use Rattle.wavelet.proofs.Depth.{tree-need}
+use Rattle.wavelet.proofs.Exact.{exact-cut}
 
 -- ## Order, alphabet and length
 
@@ -64,9 +64,8 @@ module _ {m N k : ℕ} (p : Passed m N k) where
   pub at-root : {v : Cursor} → Root v → CursorAt m N (m + N) [] v
   at-root {v} e = rw (e .0, e .1, e .2, e .3) (cursor-root m N (omega (arith, legal-order)) (legal-alphabet .0))
 
-  pub low-root : {v : Cursor} → Root v → Low m v
-  unfolding first
-  low-root {v} e = rw (e .0, e .1) (omega arith)
+  pub is-root : {v : Cursor} → Root v → {l : ℕ} → l ≡ N → IsCursor m l v
+  is-root e same = rw same (m + N, [], at-root e)
 
   module _ (s : List ℕ) where
     -- too many bytes
@@ -82,9 +81,9 @@ module _ {m N k : ℕ} (p : Passed m N k) where
       unfolding ends tree
       ends-need = walked (m + N) [] (at-root root) ∙ omega arith
 
-      pub index-is : (whole : Bool) → Exact s end whole → isIndex m N k s ≡ whole
+      pub index-is : isIndex m N k s ≡ exact end s
       unfolding isIndex
-      index-is whole x = sym (x (need (tree m N) k (unpack s)) ends-need)
+      index-is = exact-cut s (need (tree m N) k (unpack s)) end ends-need
 
       -- an index's bitmaps end in its bytes
       pub index-end : isIndex m N k s ≡ true → end ≤ 8 * length s

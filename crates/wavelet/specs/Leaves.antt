@@ -7,10 +7,10 @@ use lib.Dec.{leb, ltb}
 use lib.ListN.{length, getD, drop}
 use Rattle.lists.specs.Lists.{filter}
 use Rattle.bits.specs.Bits.{bitOf, unpack}
-use Rattle.fibonacci.specs.Code.{F, ones, Codeword, first, number, codeword}
+use Rattle.fibonacci.specs.Code.{F, ones, Codeword, number, codeword}
 use Rattle.fibonacci.specs.Tables.{Positions}
 use Rattle.wavelet.specs.Nodes.{isPrefix, Tree, prune, nodes}
-use Rattle.wavelet.specs.Bitmaps.{need, exact}
+use Rattle.wavelet.specs.Bitmaps.{need}
 use Rattle.wavelet.specs.Questions.{maxAlphabet}
 use Rattle.wavelet.specs.declared.Cursor.{Cursor}
 
@@ -38,17 +38,21 @@ CursorAt m N f q v = Describes m N f q (v .depth) (v .next) (v .ones) (v .number
 abbrev pub Root : Cursor → Type 0
 Root v = (v .depth ≡ 0) × (v .next ≡ 2) × (v .ones ≡ 0) × (v .number ≡ 1)
 
--- w is at least the first number of the codewords with as many bits before their last ones
-abbrev pub Low : ℕ → Cursor → Type 0
-Low m v = first m (v .depth + 1) ≤ v .next
+-- Some string of the tree of 1 .. N
+abbrev pub IsCursor : ℕ → ℕ → Cursor → Type 0
+IsCursor m N v = (f : ℕ) × (q : List Bool) × CursorAt m N f q v
 
 -- The test of a node
 abbrev pub nodeTest : ℕ → ℕ → Cursor → Bool
 nodeTest m N v = ltb (v .ones) m && leb (v .next) N
 
+-- A node of the tree of some alphabet
+abbrev pub SomeNode : ℕ → Cursor → Type 0
+SomeNode m v = (N : ℕ) × (N ≤ maxAlphabet) × IsCursor m N v × (nodeTest m N v ≡ true)
+
 -- What a walk has shown where it looks at the bitmaps below a spot: they start at bit `at`
 abbrev pub Ready : ℕ → ℕ → Cursor → List ℕ → List ℕ → ℕ → Type 0
-Ready m N v positions s at = Positions m positions × (N ≤ maxAlphabet) × Low m v × (length s ≤ maxIndexBytes) × (at ≤ 8 * length s)
+Ready m N v positions s at = Positions m positions × (N ≤ maxAlphabet) × IsCursor m N v × (length s ≤ maxIndexBytes) × (at ≤ 8 * length s)
 
 -- What a bit chooses of two
 abbrev pub side : {A : Type 0} → Bool → A → A → A
@@ -85,7 +89,3 @@ visitsIn m t n = length (filter (λ p. isPrefix p (codeword m n)) (nodes t))
 -- x has the bits of the codeword of n from the top of 32 bits on, and then zeros
 abbrev pub Aligned : ℕ → ℕ → ℕ → Type 0
 Aligned m n x = (s : ℕ) → s < 32 → bitOf x (31 - s) ≡ getD (codeword m n) s false
-
--- Bitmaps that end at bit `end`, or run past the bytes, are those of an index exactly where the answer is true
-abbrev pub Exact : List ℕ → ℕ → Bool → Type 0
-Exact s end whole = (n : ℕ) → end ≡ min n (suc (length (unpack s))) → whole ≡ exact n s

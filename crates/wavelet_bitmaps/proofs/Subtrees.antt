@@ -1,4 +1,4 @@
--- What spreading writes below a string: nothing for no words and at a leaf, and at a node its bitmap and what its sides write.
+-- What is written below a string: nothing for no words and at a leaf, and at a node its bitmap and what its sides write.
 use mathlib.Core.Path.{_≡_, refl, sym, ap, ap₂, _∙_, subst}
 use mathlib.Core.Bool.{Bool, true, false, not}
 use mathlib.Core.List.{List, [], _∷_, _++_, map, flatten, append-assoc}
@@ -20,7 +20,7 @@ use Rattle.wavelet.specs.Nodes.{isPrefix, Tree, prune, tree, nodes}
 use Rattle.wavelet.specs.Bitmaps.{bitmap, joined, bitmaps}
 use Rattle.wavelet.specs.Questions.{maxAlphabet}
 use Rattle.wavelet.specs.Answers.{Passed}
-use Rattle.wavelet.specs.Leaves.{CursorAt, Aligned, sideOf, Root, nodeTest}
+use Rattle.wavelet.specs.Leaves.{CursorAt, IsCursor, Aligned, sideOf, Root, nodeTest}
 use Rattle.wavelet.specs.declared.Cursor.{Cursor}
 use Rattle.wavelet.proofs.Strings.{begins-front}
 use Rattle.wavelet.proofs.Pruned.{cursor-node, cursor-longer}
@@ -29,7 +29,7 @@ use Rattle.wavelet.proofs.Walking.{is-node, is-leaf}
 use Rattle.wavelet.proofs.Nodes.{cursor-under}
 use Rattle.wavelet.proofs.Rows.{at, at-all, Sided, sided-longer, joined-node, joined-none}
 use Rattle.wavelet.proofs.Answering.{at-root}
-use Rattle.wavelet_bitmaps.specs.Leaves.{AllAligned, bitAfter, partitioned, room, WritesSubtree, WritesBitmaps}
+use Rattle.wavelet_bitmaps.specs.Leaves.{AllAligned, bitAfter, partitioned, room, HasWords, WritesSubtree, HasRow, WritesBitmaps}
 use Rattle.bits.proofs.Count.{filter-count}
 
 -- ## The room that bitmaps take
@@ -83,6 +83,10 @@ paths-none m [] xs e p = refl
 paths-none m (n ∷ l) [] e p = absurd p
 paths-none m (n ∷ l) (x ∷ xs) e p = absurd (omega arith)
 
+-- the string that they are below
+pub words-cursor : (m N : ℕ) (v : Cursor) (xs : List ℕ) → HasWords m N v xs → IsCursor m N v
+words-cursor m N v xs (f, q, row, (h, pos, p)) = (f, q, h)
+
 -- ## No words, and a leaf
 
 module _ (m N : ℕ) (v : Cursor) (xs : List ℕ) (at : ℕ) (b : List ℕ) where
@@ -93,13 +97,13 @@ module _ (m N : ℕ) (v : Cursor) (xs : List ℕ) (at : ℕ) (b : List ℕ) wher
 
   -- no numbers below a string, no bitmaps
   pub subtree-none : length xs ≡ 0 → WritesSubtree m N v xs at b at b
-  subtree-none e f q row pos h p =
-      nothing (prune m N f q) row (joined-none m q (prune m N f q) (cursor-under h) row (paths-none m _ xs e p))
+  subtree-none e f q row w =
+      nothing (prune m N f q) row (joined-none m q (prune m N f q) (cursor-under (w .0)) row (paths-none m _ xs e (w .2)))
 
   -- a leaf has none
   pub subtree-leaf : nodeTest m N v ≡ false → WritesSubtree m N v xs at b at b
   unfolding joined nodes flatten
-  subtree-leaf e f q row pos h p = nothing (prune m N f q) row (ap (λ (t : Tree). joined m t row) (is-leaf m N v e f q h))
+  subtree-leaf e f q row w = nothing (prune m N f q) row (ap (λ (t : Tree). joined m t row) (is-leaf m N v e f q (w .0)))
 
 -- ## A node
 
@@ -150,6 +154,17 @@ module _ (m N : ℕ) (v : Cursor) (xs : List ℕ) (test : nodeTest m N v ≡ tru
         (filter-within _ _ (λ n. begins-front q (codeword m n) true) row)
         (aligned-filter m _ (λ n. isPrefix (q ++ (true ∷ [])) (codeword m n)) (Sided m q) (λ n x a d. bit-of n x d ∙ sym (a .1)) (at m q row) xs sided p)
 
+  -- so there are such words on each side
+  pub words-zero : HasWords m N v xs → {u : Cursor} {ys : List ℕ} → u ≡ sideOf m v false → ys ≡ filter (λ x. not (bitAfter (v .depth) x)) xs → HasWords m N u ys
+  words-zero (f, q, row, (h, pos, p)) is-zero zs =
+      let k = cursor-node h (is-node m N v test .0) (is-node m N v test .1) in
+      (k .g, q ++ (false ∷ []), row, (rw is-zero (k .zero-side), pos, rw zs (zero-paths f q row pos h p)))
+
+  pub words-one : HasWords m N v xs → {u : Cursor} {ys : List ℕ} → u ≡ sideOf m v true → ys ≡ filter (bitAfter (v .depth)) xs → HasWords m N u ys
+  words-one (f, q, row, (h, pos, p)) is-one os =
+      let k = cursor-node h (is-node m N v test .0) (is-node m N v test .1) in
+      (k .g, q ++ (true ∷ []), row, (rw is-one (k .one-side), pos, rw os (one-paths f q row pos h p)))
+
   -- its bitmap from bit `at` on, then what its sides write
   module _ (at mid end : ℕ) (xz xo b0 b1 b2 b3 : List ℕ) (uz uo : Cursor)
       (is-zero : uz ≡ sideOf m v false) (is-one : uo ≡ sideOf m v true)
@@ -157,15 +172,15 @@ module _ (m N : ℕ) (v : Cursor) (xs : List ℕ) (test : nodeTest m N v ≡ tru
       (bits : unpack b1 ≡ sets (unpack b0) at (map (bitAfter (v .depth)) xs))
       (sz : WritesSubtree m N uz xz (at + length xs) b1 mid b2) (so : WritesSubtree m N uo xo mid b2 end b3) where
     pub subtree-node : WritesSubtree m N v xs at b0 end b3
-    subtree-node f q row pos h p =
+    subtree-node f q row (h, pos, p) =
         let k = cursor-node h (is-node m N v test .0) (is-node m N v test .1) in
         let tz : Tree = prune m N (k .g) (q ++ (false ∷ [])) in
         let to : Tree = prune m N (k .g) (q ++ (true ∷ [])) in
         let jb : List Bool = bitmap m row q in
         let jz : List Bool = joined m tz row in
         let jo : List Bool = joined m to row in
-        let z = sz (k .g) (q ++ (false ∷ [])) row pos (rw is-zero (k .zero-side)) (rw zs (zero-paths f q row pos h p)) in
-        let o = so (k .g) (q ++ (true ∷ [])) row pos (rw is-one (k .one-side)) (rw os (one-paths f q row pos h p)) in
+        let z = sz (k .g) (q ++ (false ∷ [])) row (rw is-zero (k .zero-side), pos, rw zs (zero-paths f q row pos h p)) in
+        let o = so (k .g) (q ++ (true ∷ [])) row (rw is-one (k .one-side), pos, rw os (one-paths f q row pos h p)) in
         let all : joined m (prune m N f q) row ≡ jb ++ (jz ++ jo) = ap (λ (t : Tree). joined m t row) (k .tree-is) ∙ joined-node m q tz to row in
         let here : map (bitAfter (v .depth)) xs ≡ jb = bits-are f q row pos h p in
         let long : length jb ≡ length xs = ap length (sym here) ∙ length-map xs (bitAfter (v .depth)) in
@@ -184,11 +199,15 @@ module _ (m N : ℕ) (v : Cursor) (xs : List ℕ) (test : nodeTest m N v ≡ tru
 pub root-room : (v : Cursor) (k : ℕ) → Root v → room (v .depth) k ≡ 16 * k
 root-room v k r = ap (λ (s : ℕ). room s k) (r .0)
 
+-- the words of a whole row are below its root
+pub root-words : {m N k : ℕ} → Passed m N k → {v : Cursor} → Root v → (xs : List ℕ) → HasRow m xs → {l : ℕ} → l ≡ N → HasWords m l v xs
+root-words {m} {N} p r xs (row, pos, d) same = rw same (m + N, [], row, (at-root p r, pos, rw (at-all m row) d))
+
 -- what is written below its root
 pub root-written : {m N k : ℕ} → Passed m N k → {v : Cursor} → Root v
     → (limit : ℕ) (xs before : List ℕ) (bits : ℕ) (after : List ℕ) → limit ≡ N → WritesSubtree m limit v xs 0 before bits after → WritesBitmaps m N xs before bits after
 unfolding bitmaps tree
 root-written {m} {N} p {v} r limit xs before bits after e s row pos d =
     let t : WritesSubtree m N v xs 0 before bits after = subst (λ (n : ℕ). WritesSubtree m n v xs 0 before bits after) e s in
-    let x = t (m + N) [] row pos (at-root p r) (rw (at-all m row) d) in
+    let x = t (m + N) [] row (at-root p r, pos, rw (at-all m row) d) in
     (x .0 ∙ zero-add _, x .1)

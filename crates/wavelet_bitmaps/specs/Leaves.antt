@@ -2,16 +2,18 @@
 use mathlib.Core.Path.{_≡_}
 use mathlib.Core.Bool.{Bool, not}
 use mathlib.Core.List.{List, [], _∷_, _++_}
-use Prim.Native.Nat.{ℕ, _+_, _-_, _*_}
+use Prim.Native.Nat.{ℕ, _+_, _-_, _*_, _≤_}
 use lib.ListN.{length}
 use lib.Seq.{sets}
 use Rattle.lists.specs.Lists.{filter}
 use Rattle.bits.specs.Bits.{bitOf, unpack}
 use Rattle.fibonacci.specs.Code.{codeword}
 use Rattle.fibonacci.specs.Encoding.{Positive}
+use Rattle.fibonacci.specs.Tables.{Positions}
 use Rattle.wavelet.specs.Nodes.{isPrefix, prune}
 use Rattle.wavelet.specs.Bitmaps.{joined, bitmaps}
-use Rattle.wavelet.specs.Leaves.{CursorAt, Aligned}
+use Rattle.wavelet.specs.Questions.{maxAlphabet}
+use Rattle.wavelet.specs.Leaves.{CursorAt, Aligned, maxIndexBytes}
 use Rattle.wavelet.specs.declared.Cursor.{Cursor}
 
 -- Words that have the codewords of a row's numbers, one for each
@@ -33,11 +35,33 @@ partitioned s xs = filter (λ x. not (bitAfter s x)) xs ++ filter (bitAfter s) x
 abbrev pub room : ℕ → ℕ → ℕ
 room s k = (16 - s) * k
 
--- What spreading words below a spot writes from bit `at` on, up to bit `end`: the bitmaps below it of any row whose numbers there the words are
+-- The cursor stands at the string q, and the words have the codewords of those numbers of a row whose codewords begin with q
+abbrev pub WordsAt : ℕ → ℕ → ℕ → List Bool → Cursor → List ℕ → List ℕ → Type 0
+WordsAt m N f q v row xs = CursorAt m N f q v × Positive row × AllAligned m (filter (λ n. isPrefix q (codeword m n)) row) xs
+
+-- .. of some string of the tree and some row
+abbrev pub HasWords : ℕ → ℕ → Cursor → List ℕ → Type 0
+HasWords m N v xs = (f : ℕ) × (q : List Bool) × (row : List ℕ) × WordsAt m N f q v row xs
+
+-- What writing below a string needs: such words, as much room for words to spare, and room for the bitmaps from bit `at` on
+abbrev pub SubtreeReady : ℕ → ℕ → Cursor → List ℕ → List ℕ → List ℕ → List ℕ → ℕ → Type 0
+SubtreeReady m N v positions words spare out at =
+    Positions m positions
+    × (N ≤ maxAlphabet)
+    × HasWords m N v words
+    × (length words ≤ length spare)
+    × (at + room (v .depth) (length words) ≤ 8 * length out)
+    × (length out ≤ maxIndexBytes)
+
+-- What writing words below a string writes from bit `at` on, up to bit `end`: the bitmaps there of any row whose numbers below the string the words are
 abbrev pub WritesSubtree : ℕ → ℕ → Cursor → List ℕ → ℕ → List ℕ → ℕ → List ℕ → Type 0
 WritesSubtree m N v xs at before end after =
-    (f : ℕ) (q : List Bool) (row : List ℕ) → Positive row → CursorAt m N f q v → AllAligned m (filter (λ n. isPrefix q (codeword m n)) row) xs
+    (f : ℕ) (q : List Bool) (row : List ℕ) → WordsAt m N f q v row xs
     → (end ≡ at + length (joined m (prune m N f q) row)) × (unpack after ≡ sets (unpack before) at (joined m (prune m N f q) row))
+
+-- The words have the codewords of the numbers of some row
+abbrev pub HasRow : ℕ → List ℕ → Type 0
+HasRow m xs = (row : List ℕ) × Positive row × AllAligned m row xs
 
 -- So from the front, for the whole tree: the bitmaps of any row whose numbers the words are, so many bits
 abbrev pub WritesBitmaps : ℕ → ℕ → List ℕ → List ℕ → ℕ → List ℕ → Type 0

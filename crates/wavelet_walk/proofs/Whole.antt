@@ -16,10 +16,10 @@ use Rattle.calls.specs.declared.Refusal.the-variants.{NotAnIndex}
 use Rattle.calls.specs.Limits.{isNumber}
 use Rattle.calls.proofs.Checks.{number-is}
 use Rattle.wavelet.specs.Nodes.{isPrefix, prune, tree, visits}
-use Rattle.wavelet.specs.Bitmaps.{rowOfBitmaps, isIndex, rowOfIndex}
+use Rattle.wavelet.specs.Bitmaps.{rowOfBitmaps, exact, isIndex, rowOfIndex}
 use Rattle.wavelet.specs.Questions.{uses, rankIn}
 use Rattle.wavelet.specs.Answers.{Passed}
-use Rattle.wavelet.specs.Leaves.{Aligned, Root, Exact}
+use Rattle.wavelet.specs.Leaves.{Aligned, Root}
 use Rattle.wavelet.specs.declared.Cursor.{Cursor}
 use Rattle.wavelet.specs.declared.QuestionAnswer.the-variants.{Answered, Refused}
 use Rattle.wavelet.proofs.Trees.{row-length}
@@ -67,18 +67,18 @@ module _ {m N k : ℕ} (p : Passed m N k) (s : List ℕ) (x : ℕ) (r : Walked) 
 
 -- what a walk from the root has found, by other names of the alphabet and the place
 module _ {m N k : ℕ} (p : Passed m N k) (s : List ℕ) (v : Cursor) (root : Root v) (question : Question) (x i : ℕ) (r : Walked)
-    {l j : ℕ} (limit : l ≡ N) (same : j ≡ min i k) (found : Finds m l v k s 0 question x j r) (whole : Bool) (exact : Exact s (r .end) whole) (n : ℕ) where
+    {l j : ℕ} (limit : l ≡ N) (same : j ≡ min i k) (found : Finds m l v k s 0 question x j r) (n : ℕ) where
   finds : Finds m N v k s 0 question x (min i k) r
   finds = rw (limit, same) at found
 
   -- whether the bytes are an index
-  index : isIndex m N k s ≡ whole
-  index = index-is p s root (r .end) (finds .0) whole exact
+  index : isIndex m N k s ≡ exact (r .end) s
+  index = index-is p s root (r .end) (finds .0)
 
-  pub walk-not : whole ≡ false → Walks m N k s question n i (Refused NotAnIndex)
+  pub walk-not : exact (r .end) s ≡ false → Walks m N k s question n i (Refused NotAnIndex)
   walk-not e next = ask-not p s next (index ∙ e)
 
-  module _ (e : whole ≡ true) where
+  module _ (e : exact (r .end) s ≡ true) where
     inside : r .end ≤ 8 * length s
     inside = index-end p s root (r .end) (finds .0) (index ∙ e)
 

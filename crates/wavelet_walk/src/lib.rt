@@ -27,7 +27,7 @@ struct Walked {
     visits: usize,
 }
 
-// The bitmaps run past the bytes, and nothing is found.
+// The bitmaps run past the bytes, and nothing is found: the bytes are no index, so nobody reads what else it holds.
 fn lost(end: usize) -> Walked
     ensures { λ r. ⌜ r .end ≡ end ⌝ }
 {
@@ -101,6 +101,8 @@ fn back(question: Question, b: &[u8], at: usize, k: usize, one: bool, result: us
 }
 
 // Walks the bitmaps of k numbers below a string, from bit `at` on, with place or use i of those numbers in view.
+// Requires: a legal order and alphabet, at most 8,192 bytes and a place in the row, which `walk` checks; and a string of the tree, which is the root or a
+// side of a node.
 fn descend(
     positions: &[u32; 47],
     order: usize,
@@ -162,7 +164,8 @@ fn descend(
 }
 
 // Walks the whole index for a question about place or use i, and about the number n if it asks for one: the checks that the questions share, and what they
-// go on with. Where n is no number of the alphabet, the walk still shows whether the bytes are an index.
+// go on with. Where n is no number of the alphabet or i no place of the row, its result may be any, and that is enough: the walk still shows whether the
+// bytes are an index, and then the question refuses n or i.
 pub fn walk(
     order: usize,
     alphabet: u32,
