@@ -36,12 +36,15 @@ refuses r false false true v next e = refused-same e
 refuses r false false false v next e = absurd (not-both e)
 
 module _ (m N k : ℕ) where
-  pub tree-passed : {x : ℕ} → accepted x ≡ checkTree m N k (accepted N) → Passed m N k
-  tree-passed {x} e =
-      let o = check-passed BadOrder (not (isOrder m)) _ x (sym e) in
+  pub tree-accepted : {A : Type 0} {next : Outcome A} {x : A} → checkTree m N k next ≡ accepted x → Passed m N k × (next ≡ accepted x)
+  tree-accepted {x = x} e =
+      let o = check-passed BadOrder (not (isOrder m)) _ x e in
       let a = check-passed BadAlphabet (not (isNumber maxAlphabet N)) _ x (o .1) in
       let c = check-passed TooManyNumbers (ltb maxCount k) _ x (a .1) in
-      record { order = not-false _ (o .0); alphabet = not-false _ (a .0); count = ltb-false _ _ (c .0) }
+      (record { order = not-false _ (o .0); alphabet = not-false _ (a .0); count = ltb-false _ _ (c .0) }, c .1)
+
+  pub tree-passed : {x : ℕ} → accepted x ≡ checkTree m N k (accepted N) → Passed m N k
+  tree-passed e = tree-accepted (sym e) .0
 
   -- what comes after them decides
   pub tree-legal : {A : Type 0} → Passed m N k → (next : Outcome A) → checkTree m N k next ≡ next
