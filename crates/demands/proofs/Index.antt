@@ -1,5 +1,5 @@
 -- What holds of the row index, for every order and alphabet.
-use mathlib.Core.Path.{_≡_, sym, ap, _∙_}
+use mathlib.Core.Path.{_≡_, sym, ap, _∙_, subst}
 use mathlib.Core.Bool.{true}
 use mathlib.Core.List.{List, [], _++_}
 use Prim.Native.Nat.{ℕ, _≤_}
@@ -16,7 +16,7 @@ use Rattle.calls.proofs.Checks.{check-passed, each-accepted}
 use Rattle.wavelet.specs.Nodes.{tree}
 use Rattle.wavelet.specs.Bitmaps.{bitmaps, index, isIndex, rowOfIndex}
 use Rattle.wavelet.specs.Questions.{checkTree, build, buildInto, extract, rank, select}
-use Rattle.wavelet.specs.Answers.{Passed}
+use Rattle.wavelet.specs.Leaves.{Passed}
 use Rattle.wavelet.proofs.Nodes.{tree-under, tree-has, tree-only, nodes-are, nodes-once, node-count, node-digits}
 use Rattle.wavelet.proofs.Rows.{index-row, row-index, one-row}
 use Rattle.wavelet.proofs.Answering.{tree-accepted, tree-legal, legal-order, legal-alphabet}
@@ -86,4 +86,4 @@ module _ (m N : ℕ) (row before : List ℕ) (bits : ℕ) (e : build m N row (le
       }
 
 pub built-answers : BuiltAnswers
-built-answers m N row before bits e = rw (built m N row before bits e) (answers-as m N row before bits e)
+built-answers m N row before bits e = subst (AnswersAs m N row) (sym (built m N row before bits e)) (answers-as m N row before bits e)

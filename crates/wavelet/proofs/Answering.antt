@@ -17,8 +17,7 @@ use Rattle.calls.specs.Limits.{isOrder, isNumber, maxCount, Order}
 use Rattle.wavelet.specs.Nodes.{tree}
 use Rattle.wavelet.specs.Bitmaps.{need, exact, isIndex}
 use Rattle.wavelet.specs.Questions.{maxAlphabet, checkTree, ask}
-use Rattle.wavelet.specs.Leaves.{CursorAt, IsCursor, ends, Ends, Aligned, maxIndexBytes, Root}
-use Rattle.wavelet.specs.Answers.{Passed}
+use Rattle.wavelet.specs.Leaves.{Passed, CursorAt, IsCursor, ends, Ends, Aligned, maxIndexBytes, Root}
 use Rattle.wavelet.specs.declared.Cursor.{Cursor}
 use Rattle.wavelet.proofs.Pruned.{cursor-root}
 use Rattle.wavelet.proofs.Depth.{tree-need}

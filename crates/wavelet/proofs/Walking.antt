@@ -1,4 +1,4 @@
--- Where the bitmaps below a spot end, step by step.
+-- Where the bitmaps below a string of the tree end, step by step.
 use mathlib.Core.Path.{_≡_, refl, sym, _∙_, subst}
 use mathlib.Core.Bool.{Bool, true, false, true≢false}
 use mathlib.Core.List.{List, [], _∷_, _++_}

@@ -1,4 +1,5 @@
 -- Building an index and asking it (paper 01, "When a call says no": Build index, the three questions). The checks stand in the paper's order.
+use mathlib.Core.Path.{_≡_}
 use mathlib.Core.Bool.{Bool, true, not}
 use mathlib.Core.List.{List, map}
 use Prim.Native.Nat.{ℕ, _-_}
@@ -33,6 +34,10 @@ build m N row room =
 -- The output after building
 unfoldable pub buildInto : ℕ → ℕ → List ℕ → List ℕ → List ℕ
 buildInto m N row before = buffer (build m N row (length before)) (index m N row) before
+
+-- What building promises: its answer, and the output afterwards
+abbrev pub BuildPromise : ℕ → ℕ → List ℕ → List ℕ → List ℕ → Outcome ℕ → Type 0
+BuildPromise m N row before after outcome = (outcome ≡ build m N row (length before)) × (after ≡ buildInto m N row before)
 
 -- ## What a row itself answers
 

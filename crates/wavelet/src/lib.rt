@@ -96,8 +96,8 @@ pub fn side(positions: &[u32; 47], order: usize, v: Cursor, one: bool) -> Cursor
     }
 }
 
-// The codeword of a number of the alphabet from the top of a word: at most 16 bits and the last ones. Building and `target_codeword` check the number before, and
-// every operation its order.
+// The codeword of a number of the alphabet from the top of a word: at most 16 bits and the last ones.
+// Requires: the tables of the order, which every operation has looked up, and a number from 1 to 4,096, which building and `target_codeword` check.
 pub fn aligned_codeword(
     positions: &[u32; 47],
     firsts: &[u32; 47],
@@ -127,7 +127,8 @@ pub fn target_codeword(positions: &[u32; 47], order: usize, limit: u64, n: u64) 
     aligned_codeword(positions, &firsts, &low, order, n)
 }
 
-// The bit after `depth` others in a codeword that stands at the top of a word. The tree is at most 16 deep.
+// The bit after `depth` others in a codeword that stands at the top of a word.
+// Requires: fewer than 32 bits before it, which a walk shows: the tree is at most 16 deep.
 pub fn next_bit(x: u32, depth: usize) -> bool
     requires { ⌜ depth < 32 ⌝ }
     ensures { λ r. ⌜ r ≡ bitOf x (31 - depth) ⌝ }

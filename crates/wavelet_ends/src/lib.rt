@@ -5,10 +5,10 @@ ghost use Prim.Native.Nat.{_+_, _*_, _≤_};
 ghost use lib.ListN.{length, take, drop};
 ghost use Rattle.bits.specs.Bits.{unpack, count};
 ghost use Rattle.wavelet.specs.Bitmaps.{exact};
-ghost use Rattle.wavelet.specs.Leaves.{nodeTest, Ready, Ends, Starts, Closes, maxIndexBytes};
+ghost use Rattle.wavelet.specs.Leaves.{nodeTest, Ready, NodeReady, Ends, Starts, Closes, maxIndexBytes};
 
-// How many ones the bitmap of k bits has that starts at bit `at`. Its bytes are handed on with the offset of its first bit. A walk asks it only of bitmaps
-// that do not run past the bytes.
+// How many ones the bitmap of k bits has that starts at bit `at`. Its bytes are handed on with the offset of its first bit.
+// Requires: a bitmap that does not run past the bytes, which whoever asks has seen, and at most 8,192 bytes, which the walk of a question checks.
 pub fn ones_in(b: &[u8], at: usize, k: usize) -> usize
     requires { ⌜ (at + k ≤ 8 * length (now b)) × (length (now b) ≤ maxIndexBytes) ⌝ }
     ensures { λ r. ⌜ (r ≡ count true (take k (drop at (unpack (now (b .entry)))))) × (r ≤ k) ⌝ }
@@ -19,7 +19,8 @@ pub fn ones_in(b: &[u8], at: usize, k: usize) -> usize
 }
 
 // Where the bitmaps below a string end that start at bit `at` and are of k numbers; one more than there are bits where they run past them.
-// Requires: what `start_of` and `end_after` require, which hand it on with a side of their node.
+// Requires: a legal order and alphabet, at most 8,192 bytes and a start in them, and a string of the tree, which `start_of` and `end_after` show of the sides
+// of their node.
 fn end_of(
     positions: &[u32; 47],
     order: usize,
@@ -49,7 +50,7 @@ fn end_of(
 
 // Where the bitmaps of a side of a node start, whose own bitmap has k bits, `ones` of them ones, and starts at bit `at`.
 // Requires: a legal order and alphabet and at most 8,192 bytes, which the walk of a question checks; a string of the tree, which is the root or a side of
-// a node; and that it is a node whose bitmap does not run past the bytes, which whoever goes on from it has seen.
+// a node; and that it is a node whose bitmap does not run past the bytes, which whoever goes on from it has tested.
 pub fn start_of(
     positions: &[u32; 47],
     order: usize,
@@ -61,7 +62,7 @@ pub fn start_of(
     at: usize,
     one: bool,
 ) -> usize
-    requires { ⌜ Ready order limit v (now positions) (now b) at × (nodeTest order limit v ≡ true) × (at + k ≤ 8 * length (now b)) × (ones ≤ k) ⌝ }
+    requires { ⌜ NodeReady order limit v k ones (now positions) (now b) at ⌝ }
     ensures { λ r. ⌜ Starts order limit v k ones (now (b .entry)) at one r ⌝ }
 {
     let own = at + k;
@@ -76,7 +77,7 @@ pub fn start_of(
 }
 
 // Where the bitmaps of a node end, once those of the side that a walk has taken have ended at bit `at`; `ones` of the node's own bits are ones.
-// Requires: what `start_of` requires, but of its bitmap only that the side ends in the bytes.
+// Requires: what `start_of` requires, but in place of the node's bitmap the end of the side in the bytes, which whoever goes on has tested.
 pub fn end_after(
     positions: &[u32; 47],
     order: usize,

@@ -18,8 +18,7 @@ use Rattle.calls.proofs.Checks.{number-is}
 use Rattle.wavelet.specs.Nodes.{isPrefix, prune, tree, visits}
 use Rattle.wavelet.specs.Bitmaps.{rowOfBitmaps, exact, isIndex, rowOfIndex}
 use Rattle.wavelet.specs.Questions.{uses, rankIn}
-use Rattle.wavelet.specs.Answers.{Passed}
-use Rattle.wavelet.specs.Leaves.{Aligned, Root}
+use Rattle.wavelet.specs.Leaves.{Passed, Aligned, Root}
 use Rattle.wavelet.specs.declared.Cursor.{Cursor}
 use Rattle.wavelet.specs.declared.QuestionAnswer.the-variants.{Answered, Refused}
 use Rattle.wavelet.proofs.Trees.{row-length}

@@ -15,7 +15,7 @@ use Rattle.wavelet.specs.Leaves.{nodeTest}
 use Rattle.wavelet.proofs.Walking.{is-node, is-low, less}
 use Rattle.wavelet_bitmaps.specs.Leaves.{bitAfter, room}
 use Rattle.wavelet_bitmaps.proofs.Subtrees.{node-depth, room-split, room-sides, side-depth, subtree-none, subtree-leaf}
-use Rattle.wavelet_bitmaps.proofs.Subtrees.{words-cursor, parted-few, parted-zeros, parted-ones, words-zero, words-one, subtree-node}
+use Rattle.wavelet_bitmaps.proofs.Subtrees.{words-cursor, partitioned-few, partitioned-zeros, partitioned-ones, words-zero, words-one, subtree-node}
 use Rattle.wavelet_bitmaps.proofs.write_subtree.Reads as write-subtree
 use Rattle.wavelet_bitmaps.proofs.write_subtree.Kinds as write-subtree-kinds
 use Rattle.wavelet_bitmaps.proofs.+write_subtree.Lts-write_subtree as write-subtree-lts
@@ -46,12 +46,12 @@ known t = (
   write-subtree.Post,
 )
 
--- where the walk through the code stands: at a node, with the words parted, with the 0 side written, and with both
+-- where the walk through the code stands: at a node, with the words partitioned, with the 0 side written, and with both
 abbrev Node : ℕ → Type 0
 Node t = write-subtree-lts.Else2 (known t) (write-subtree-at t) write-subtree.Post
 
-abbrev Parted : ℕ → Type 0
-Parted t = write-subtree-lts.After-partition (known t) (write-subtree-at t) write-subtree.Post
+abbrev Partitioned : ℕ → Type 0
+Partitioned t = write-subtree-lts.After-partition (known t) (write-subtree-at t) write-subtree.Post
 
 abbrev Zero : ℕ → Type 0
 Zero t = write-subtree-lts.After-write-subtree (known t) (write-subtree-at t) write-subtree.Post
@@ -62,10 +62,10 @@ Both t = write-subtree-lts.After-write-subtree2 (known t) (write-subtree-at t) w
 abbrev start-of : (t : ℕ) → Node t → write-subtree-lts.Start (known t) (write-subtree-at t) write-subtree.Post
 start-of t c = c .before .before .before .before .before .before
 
-abbrev node-of : (t : ℕ) → Parted t → Node t
+abbrev node-of : (t : ℕ) → Partitioned t → Node t
 node-of t c = c .before .before .before .before
 
-abbrev part-of : (t : ℕ) → Zero t → Parted t
+abbrev part-of : (t : ℕ) → Zero t → Partitioned t
 part-of t c = c .before .before .before .before .before .before .before .before .before .before .before
 
 abbrev zero-of : (t : ℕ) → Both t → Zero t
@@ -92,14 +92,14 @@ fits t c =
     let n = length (z .args .words .now) in
     omega (arith, z .pre .1 .4, room-split (z .args .v .depth) n n 0 (shallow t c) (omega arith))
 
--- ## With the words parted
+-- ## With the words partitioned
 
-few : (t : ℕ) (c : Parted t) → c .partition .result ≤ length (c .partition .last .0)
+few : (t : ℕ) (c : Partitioned t) → c .partition .result ≤ length (c .partition .last .0)
 few t c =
     let a = start-of t (node-of t c) .args in
-    omega (arith, c .partition .kept .0, parted-few (a .v .depth) (a .words .now) (c .partition .result) (c .partition .ensures .0))
+    omega (arith, c .partition .kept .0, partitioned-few (a .v .depth) (a .words .now) (c .partition .result) (c .partition .ensures .0))
 
-sides : (t : ℕ) (c : Parted t) {uz uo : ℕ}
+sides : (t : ℕ) (c : Partitioned t) {uz uo : ℕ}
     → let a = start-of t (node-of t c) .args in
     uz ≡ a .v .depth + 1 → uo ≡ a .v .depth + 1
     → room (a .v .depth) (length (a .words .now))
@@ -109,19 +109,19 @@ sides t c zero-is one-is =
     room-sides (a .v .depth) (length (a .words .now)) (c .partition .result) (c .partition .last .0) (shallow t (node-of t c)) (c .partition .kept .0) zero-is one-is
 
 -- the words on each side
-zeros : (t : ℕ) (c : Parted t)
+zeros : (t : ℕ) (c : Partitioned t)
     → let a = start-of t (node-of t c) .args in
     take (c .partition .result) (c .partition .last .0) ≡ filter (λ x. not (bitAfter (a .v .depth) x)) (a .words .now)
 zeros t c =
     let a = start-of t (node-of t c) .args in
-    ap (take (c .partition .result)) (c .partition .ensures .1) ∙ parted-zeros (a .v .depth) (a .words .now) (c .partition .result) (c .partition .ensures .0)
+    ap (take (c .partition .result)) (c .partition .ensures .1) ∙ partitioned-zeros (a .v .depth) (a .words .now) (c .partition .result) (c .partition .ensures .0)
 
-ones-of : (t : ℕ) (c : Parted t)
+ones-of : (t : ℕ) (c : Partitioned t)
     → let a = start-of t (node-of t c) .args in
     drop (c .partition .result) (c .partition .last .0) ≡ filter (bitAfter (a .v .depth)) (a .words .now)
 ones-of t c =
     let a = start-of t (node-of t c) .args in
-    ap (drop (c .partition .result)) (c .partition .ensures .1) ∙ parted-ones (a .v .depth) (a .words .now) (c .partition .result) (c .partition .ensures .0)
+    ap (drop (c .partition .result)) (c .partition .ensures .1) ∙ partitioned-ones (a .v .depth) (a .words .now) (c .partition .result) (c .partition .ensures .0)
 
 -- ## With the 0 side written: its words may have changed, the others have not
 

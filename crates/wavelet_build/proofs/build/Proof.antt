@@ -10,8 +10,7 @@ use Rattle.calls.specs.Calls.{accepted, countOutcome}
 use Rattle.calls.specs.Limits.{Legal}
 use Rattle.fibonacci.specs.Encoding.{Positive}
 use Rattle.wavelet.specs.Bitmaps.{bitmaps}
-use Rattle.wavelet.specs.Answers.{Passed}
-use Rattle.wavelet.specs.Leaves.{maxIndexBytes}
+use Rattle.wavelet.specs.Leaves.{Passed, maxIndexBytes}
 use Rattle.wavelet.proofs.Answering.{tree-passed, legal-order, legal-alphabet}
 use Rattle.wavelet_bitmaps.specs.Leaves.{AllAligned}
 use Rattle.wavelet_build.proofs.Building.{build-refused, build-number, build-room, build-done}

@@ -3,7 +3,7 @@ use native.Mathlib.Omega.{arith}
 use borrow.Author.Needs.{needs}
 use borrow.Author.Tests.{not-true, not-false}
 use Rattle.calls.specs.Calls.{countOutcome}
-use Rattle.wavelet.specs.Answers.{Passed}
+use Rattle.wavelet.specs.Leaves.{Passed}
 use Rattle.wavelet.proofs.Answering.{tree-passed, tree-refused, legal-order, legal-alphabet, is-root, index-long, ask-not, target-aligned}
 use Rattle.wavelet_walk.proofs.Questions.{view-all}
 use Rattle.wavelet_walk.proofs.Whole.{walk-not, walk-whole}
