@@ -1,4 +1,5 @@
 pub mod Lists
 pub mod Each
 pub mod Filter
+pub mod Members
 pub mod Sums

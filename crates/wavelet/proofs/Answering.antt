@@ -14,15 +14,14 @@ use Rattle.calls.specs.declared.Refusal.{Refusal}
 use Rattle.calls.specs.declared.Refusal.the-variants.{BadOrder, TooManyNumbers, BadAlphabet, NotAnIndex}
 use Rattle.calls.specs.Calls.{Outcome, accepted, refused, check}
 use Rattle.calls.specs.Limits.{isOrder, isNumber, maxCount, Order}
-use Rattle.fibonacci.specs.Code.{first}
 use Rattle.wavelet.specs.Nodes.{tree}
-use Rattle.wavelet.specs.Bitmaps.{need, isIndex}
+use Rattle.wavelet.specs.Bitmaps.{need, exact, isIndex}
 use Rattle.wavelet.specs.Questions.{maxAlphabet, checkTree, ask}
-use Rattle.wavelet.specs.Leaves.{CursorAt, Low, ends, Ends, Aligned, Exact, maxIndexBytes, Root}
-use Rattle.wavelet.specs.Answers.{Passed}
+use Rattle.wavelet.specs.Leaves.{Passed, CursorAt, IsCursor, ends, Ends, Aligned, maxIndexBytes, Root}
 use Rattle.wavelet.specs.declared.Cursor.{Cursor}
 use Rattle.wavelet.proofs.Pruned.{cursor-root}
 use Rattle.wavelet.proofs.Depth.{tree-need}
+use Rattle.wavelet.proofs.Exact.{exact-cut}
 
 -- ## Order, alphabet and length
 
@@ -36,12 +35,15 @@ refuses r false false true v next e = refused-same e
 refuses r false false false v next e = absurd (not-both e)
 
 module _ (m N k : ℕ) where
-  pub tree-passed : {x : ℕ} → accepted x ≡ checkTree m N k (accepted N) → Passed m N k
-  tree-passed {x} e =
-      let o = check-passed BadOrder (not (isOrder m)) _ x (sym e) in
+  pub tree-accepted : {A : Type 0} {next : Outcome A} {x : A} → checkTree m N k next ≡ accepted x → Passed m N k × (next ≡ accepted x)
+  tree-accepted {x = x} e =
+      let o = check-passed BadOrder (not (isOrder m)) _ x e in
       let a = check-passed BadAlphabet (not (isNumber maxAlphabet N)) _ x (o .1) in
       let c = check-passed TooManyNumbers (ltb maxCount k) _ x (a .1) in
-      record { order = not-false _ (o .0); alphabet = not-false _ (a .0); count = ltb-false _ _ (c .0) }
+      (record { order = not-false _ (o .0); alphabet = not-false _ (a .0); count = ltb-false _ _ (c .0) }, c .1)
+
+  pub tree-passed : {x : ℕ} → accepted x ≡ checkTree m N k (accepted N) → Passed m N k
+  tree-passed e = tree-accepted (sym e) .0
 
   -- what comes after them decides
   pub tree-legal : {A : Type 0} → Passed m N k → (next : Outcome A) → checkTree m N k next ≡ next
@@ -64,9 +66,8 @@ module _ {m N k : ℕ} (p : Passed m N k) where
   pub at-root : {v : Cursor} → Root v → CursorAt m N (m + N) [] v
   at-root {v} e = rw (e .0, e .1, e .2, e .3) (cursor-root m N (omega (arith, legal-order)) (legal-alphabet .0))
 
-  pub low-root : {v : Cursor} → Root v → Low m v
-  unfolding first
-  low-root {v} e = rw (e .0, e .1) (omega arith)
+  pub is-root : {v : Cursor} → Root v → {l : ℕ} → l ≡ N → IsCursor m l v
+  is-root e same = rw same (m + N, [], at-root e)
 
   module _ (s : List ℕ) where
     -- too many bytes
@@ -82,9 +83,9 @@ module _ {m N k : ℕ} (p : Passed m N k) where
       unfolding ends tree
       ends-need = walked (m + N) [] (at-root root) ∙ omega arith
 
-      pub index-is : (whole : Bool) → Exact s end whole → isIndex m N k s ≡ whole
+      pub index-is : isIndex m N k s ≡ exact end s
       unfolding isIndex
-      index-is whole x = sym (x (need (tree m N) k (unpack s)) ends-need)
+      index-is = exact-cut s (need (tree m N) k (unpack s)) end ends-need
 
       -- an index's bitmaps end in its bytes
       pub index-end : isIndex m N k s ≡ true → end ≤ 8 * length s

@@ -12,7 +12,7 @@ use Rattle.calls.specs.Limits.{maxNumber, Order}
 use Rattle.fibonacci.proofs.Numbers.{first-suc, first-rises, F-first}
 use Rattle.fibonacci.proofs.Lookup.{each-order, first-within}
 use Rattle.wavelet.specs.Questions.{maxAlphabet}
-use Rattle.wavelet.specs.Leaves.{Low, sideOf}
+use Rattle.wavelet.specs.Leaves.{sideOf}
 use Rattle.wavelet.specs.declared.Cursor.{Cursor}
 
 -- no codeword of the largest alphabet has more than 16 bits before its last ones
@@ -39,11 +39,10 @@ pub low-more : (m s w : ℕ) → first m (s + 1) ≤ w → first m (s + 1 + 1) �
 low-more m s w low = omega (arith, ap (first m) (add-one (s + 1)), first-suc m (s + 1))
 
 -- a bit more
-pub side-one : (m : ℕ) (v : Cursor) (one : Bool) (f : ℕ) → f ≡ F m (v .depth + 1) → one ≡ true → Low m v
-    → (record { depth = v .depth + 1; next = v .next + f + f; ones = v .ones + 1; number = v .number } ≡ sideOf m v one)
-    × (first m (v .depth + 1 + 1) ≤ v .next + f + f)
-side-one m v one f e t low = rw (t, e) (refl, omega (arith, low-more m (v .depth) (v .next) low))
+pub side-one : (m : ℕ) (v : Cursor) (one : Bool) (f : ℕ) → f ≡ F m (v .depth + 1) → one ≡ true
+    → record { depth = v .depth + 1; next = v .next + f + f; ones = v .ones + 1; number = v .number } ≡ sideOf m v one
+side-one m v one f e t = rw (t, e)
 
-pub side-zero : (m : ℕ) (v : Cursor) (one : Bool) (f : ℕ) → f ≡ F m (v .depth + 1) → one ≡ false → Low m v
-    → (record { depth = v .depth + 1; next = v .next + f; ones = 0; number = v .next } ≡ sideOf m v one) × (first m (v .depth + 1 + 1) ≤ v .next + f)
-side-zero m v one f e t low = rw (t, e) (refl, low-more m (v .depth) (v .next) low)
+pub side-zero : (m : ℕ) (v : Cursor) (one : Bool) (f : ℕ) → f ≡ F m (v .depth + 1) → one ≡ false
+    → record { depth = v .depth + 1; next = v .next + f; ones = 0; number = v .next } ≡ sideOf m v one
+side-zero m v one f e t = rw (t, e)

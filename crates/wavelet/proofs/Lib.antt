@@ -3,6 +3,7 @@ pub mod Pruned
 pub mod Merging
 pub mod Trees
 pub mod Nodes
+pub mod Visits
 pub mod Rows
 pub mod Cursors
 pub mod Aligned

@@ -1,20 +1,24 @@
 -- The nodes of the tree of 1 .. N: the strings after which both a 0 and a 1 go on; there are N - 1, the digits of the codewords of 2 .. N.
 use mathlib.Core.Path.{_≡_, refl, sym, ap, _∙_, subst}
-use mathlib.Core.Bool.{Bool, true, false, _&&_, true≢false, false≢true}
+use mathlib.Core.Bool.{Bool, true, false, _&&_, Bool-set, true≢false, false≢true}
+use mathlib.Core.HLevel.{⊥-prop}
 use mathlib.Core.List.{List, [], _∷_, _++_, append-assoc, append-nil}
-use mathlib.Core.Logic.{_⊎_, inl, inr, ⊎-elim, _↔_}
+use mathlib.Core.List.{List·Mem, List·Memᴰ, List·Memᴰ·head, List·Memᴰ·tail, List·Memᴰ·not-nil, List·Memᴰ·cases-cons, List·Memᴰ·append-cases, Memᴰ·append-left, Memᴰ·append-right}
+use mathlib.Core.List.{List·Nodup, Pairwise·nil, nodup-cons, nodup-append}
+use mathlib.Core.Logic.{_⊎_, inl, inr, ⊎-elim, _↔_, ∥∥₁-elim}
 use Prim.Native.Nat.{ℕ, zero, suc, _+_, _-_, _≤_, _<_}
 use native.Mathlib.Omega.{arith}
 use native.Mathlib.Decide.{decLe}
 use lib.ListN.{length, getD, take, drop, length-append, replicate-append-replicate, List·getD-append}
 use lib.Seq.{take-at}
-use Rattle.lists.specs.Lists.{valuesFrom, All, filter}
+use Rattle.lists.specs.Lists.{valuesFrom, filter}
+use Rattle.lists.proofs.Members.{all-in}
 use Rattle.bits.specs.Bits.{sameBit, bitValue}
 use Rattle.fibonacci.specs.Code.{ones, runs, Codeword, value, number, codeword}
 use Rattle.calls.proofs.Checks.{both}
 use Rattle.fibonacci.proofs.Runs.{few-ones, runs-cut}
 use Rattle.fibonacci.proofs.Numbers.{first-rises, first-pos, value-append, number-one, form-codeword, codeword-good}
-use Rattle.wavelet.specs.Nodes.{In, Once, isPrefix, beginsSome, isNode, Tree, leaf, node, prune, tree, nodes}
+use Rattle.wavelet.specs.Nodes.{isPrefix, beginsSome, isNode, Tree, leaf, node, prune, tree, nodes}
 use Rattle.wavelet.specs.Leaves.{Describes}
 use Rattle.wavelet.proofs.Strings.{begins-rest, begins-append, begins-bit, begins-next, begins-front, begins-one}
 use Rattle.wavelet.proofs.Trees.{Under, Has, has-begins, nodes-begin}
@@ -183,32 +187,6 @@ node-count m N p h = tree-grown m N p h .counted ∙ passing-all (λ n. isPrefix
 
 -- ## Which they are
 
-in-front : {p : List Bool} (a b : List (List Bool)) → In p a → In p (a ++ b)
-in-front {p} a b h = (h .0, h .1 ++ b, ap (λ (l : List (List Bool)). l ++ b) (h .2) ∙ append-assoc (h .0) (p ∷ h .1) b)
-
-in-behind : {p : List Bool} (a b : List (List Bool)) → In p b → In p (a ++ b)
-in-behind {p} a b h = (a ++ h .0, h .1, ap (λ (l : List (List Bool)). a ++ l) (h .2) ∙ sym (append-assoc a (h .0) (p ∷ h .1)))
-
-in-cons : (p x : List Bool) (l : List (List Bool)) → In p (x ∷ l) → (p ≡ x) ⊎ In p l
-in-cons p x l ([], b, e) = inl (cc)
-in-cons p x l (y ∷ a, b, e) = inr (a, b, cc)
-
-in-append : (p : List Bool) (a b : List (List Bool)) → In p (a ++ b) → In p a ⊎ In p b
-in-append p [] b h = inr h
-in-append p (x ∷ a) b h =
-    ⊎-elim
-    (λ (e : p ≡ x). inl ([], a, ap (λ (y : List Bool). y ∷ a) (sym e)))
-    (λ (i : In p (a ++ b)). more (in-append p a b i))
-    (in-cons p x (a ++ b) h)
-  where
-    more : In p a ⊎ In p b → In p (x ∷ a) ⊎ In p b
-    more (inl i) = inl (in-behind (x ∷ []) a i)
-    more (inr i) = inr i
-
-in-none : (p : List Bool) → In p [] → ⊥
-in-none p ([], b, e) = let z : _≡_ {A = ℕ} 0 1 = cc in omega arith
-in-none p (y ∷ a, b, e) = let z : _≡_ {A = ℕ} 0 1 = cc in omega arith
-
 node-both : (m N : ℕ) (p : List Bool) → isNode m N p ≡ true → (beginsSome m N (p ++ (false ∷ [])) ≡ true) × (beginsSome m N (p ++ (true ∷ [])) ≡ true)
 unfolding isNode
 node-both m N p e = both (beginsSome m N (p ++ (false ∷ []))) (beginsSome m N (p ++ (true ∷ []))) e
@@ -229,9 +207,9 @@ under-goes m N q t u only =
     goes-on m N q (n .0) (k .0) (only (n .0) (n .1)) (k .1)
 
 -- a node of the tree goes on with both bits
-listed-node : (m N : ℕ) (q : List Bool) (t : Tree) → Under m q t → ((n : ℕ) → Has t n → n ≤ N) → (p : List Bool) → In p (nodes t) → isNode m N p ≡ true
+listed-node : (m N : ℕ) (q : List Bool) (t : Tree) → Under m q t → ((n : ℕ) → Has t n → n ≤ N) → (p : List Bool) → List·Memᴰ p (nodes t) → isNode m N p ≡ true
 unfolding nodes
-listed-node m N q (leaf x) u only p i = absurd (in-none p i)
+listed-node m N q (leaf x) u only p i = absurd (List·Memᴰ·not-nil i)
 listed-node m N q (node x z o) u only p i =
     let x0 : List Bool = x ++ (false ∷ []) in
     let x1 : List Bool = x ++ (true ∷ []) in
@@ -239,9 +217,9 @@ listed-node m N q (node x z o) u only p i =
     let os : (n : ℕ) → Has o n → n ≤ N = λ n h. only n (inr h) in
     ⊎-elim
     (λ (e : p ≡ x). rw e (both-node m N x (under-goes m N x0 z (u .1) zs) (under-goes m N x1 o (u .2) os)))
-    (λ (j : In p (nodes z ++ nodes o)).
-    ⊎-elim (listed-node m N x0 z (u .1) zs p) (listed-node m N x1 o (u .2) os p) (in-append p (nodes z) (nodes o) j))
-    (in-cons p x (nodes z ++ nodes o) i)
+    (λ (j : List·Memᴰ p (nodes z ++ nodes o)).
+    ⊎-elim (listed-node m N x0 z (u .1) zs p) (listed-node m N x1 o (u .2) os p) (List·Memᴰ·append-cases (nodes z) j))
+    (List·Memᴰ·cases-cons i)
 
 -- two strings part in one place only
 begins-at : (x a : List Bool) (i : ℕ) → isPrefix x a ≡ true → i < length x → getD a i false ≡ getD x i false
@@ -274,35 +252,35 @@ part-once p x a b u v c d n k ea eb fa fb =
 
 -- where the codewords of two of a tree's numbers part, there is a node
 node-listed : (m : ℕ) (q : List Bool) (t : Tree) → Under m q t → (p : List Bool) (a b : ℕ) → Has t a → Has t b
-    → isPrefix (p ++ (false ∷ [])) (codeword m a) ≡ true → isPrefix (p ++ (true ∷ [])) (codeword m b) ≡ true → In p (nodes t)
+    → isPrefix (p ++ (false ∷ [])) (codeword m a) ≡ true → isPrefix (p ++ (true ∷ [])) (codeword m b) ≡ true → List·Memᴰ p (nodes t)
 unfolding nodes
 node-listed m q (leaf x) u p a b i j e f =
     let same : codeword m b ≡ codeword m a = ap (codeword m) (j ∙ sym i) in
     absurd (begins-one p (codeword m a) e (rw same at f))
 node-listed m q (node x z o) u p a b (inl i) (inl j) e f =
-    in-behind (x ∷ []) (nodes z ++ nodes o) (in-front (nodes z) (nodes o) (node-listed m (x ++ (false ∷ [])) z (u .1) p a b i j e f))
+    List·Memᴰ·tail (Memᴰ·append-left (nodes o) (node-listed m (x ++ (false ∷ [])) z (u .1) p a b i j e f))
 node-listed m q (node x z o) u p a b (inr i) (inr j) e f =
-    in-behind (x ∷ []) (nodes z ++ nodes o) (in-behind (nodes z) (nodes o) (node-listed m (x ++ (true ∷ [])) o (u .2) p a b i j e f))
+    List·Memᴰ·tail (Memᴰ·append-right (nodes z) (node-listed m (x ++ (true ∷ [])) o (u .2) p a b i j e f))
 node-listed m q (node x z o) u p a b (inl i) (inr j) e f =
-    let same : p ≡ x = part-once p x (codeword m a) (codeword m b) false true false true false≢true false≢true e f
-    (has-begins m (x ++ (false ∷ [])) z a (u .1) i .1) (has-begins m (x ++ (true ∷ [])) o b (u .2) j .1) in
-    ([], nodes z ++ nodes o, ap (λ (y : List Bool). y ∷ (nodes z ++ nodes o)) (sym same))
+    List·Memᴰ·head (
+    part-once p x (codeword m a) (codeword m b) false true false true false≢true false≢true e f
+    (has-begins m (x ++ (false ∷ [])) z a (u .1) i .1) (has-begins m (x ++ (true ∷ [])) o b (u .2) j .1))
 node-listed m q (node x z o) u p a b (inr i) (inl j) e f =
     let g = has-begins m (x ++ (true ∷ [])) o a (u .2) i .1 in
     let same : p ≡ x = part-once p x (codeword m a) (codeword m b) false true true false false≢true true≢false e f
     g (has-begins m (x ++ (false ∷ [])) z b (u .1) j .1) in
     absurd (begins-one p (codeword m a) e (rw (← same) at g))
 
-pub nodes-are : (m N : ℕ) → 1 ≤ m → 1 ≤ N → (p : List Bool) → In p (nodes (tree m N)) ↔ (isNode m N p ≡ true)
+pub nodes-are : (m N : ℕ) → 1 ≤ m → 1 ≤ N → (p : List Bool) → List·Mem p (nodes (tree m N)) ↔ (isNode m N p ≡ true)
 nodes-are m N k h p =
     let t = tree m N in
     let u = tree-under m N k h in (
-      listed-node m N [] t u (λ n i. tree-only m N k h n i .1) p,
+      λ (i : List·Mem p (nodes t)). ∥∥₁-elim i (Bool-set _ _) (listed-node m N [] t u (λ n i. tree-only m N k h n i .1) p),
       λ (e : isNode m N p ≡ true).
           let g = node-both m N p e in
           let a = goes-some m N (p ++ (false ∷ [])) (g .0) in
           let b = goes-some m N (p ++ (true ∷ [])) (g .1) in
-          node-listed m [] t u p (a .0) (b .0) (tree-has m N k h (a .0) (a .1) (a .2)) (tree-has m N k h (b .0) (b .1) (b .2)) (a .3) (b .3),
+          ∣ node-listed m [] t u p (a .0) (b .0) (tree-has m N k h (a .0) (a .1) (a .2)) (tree-has m N k h (b .0) (b .1) (b .2)) (a .3) (b .3) ∣₁,
     )
 
 -- ## Their digits
@@ -364,18 +342,6 @@ node-digits m N k h p = (
 
 -- ## Each once
 
-once-append : (a b : List (List Bool)) → Once a → Once b → ((p : List Bool) → In p a → In p b → ⊥) → Once (a ++ b)
-once-append [] b x y apart = y
-once-append (p ∷ a) b x y apart = (
-  λ (i : In p (a ++ b)). ⊎-elim (x .0) (apart p ([], a, refl)) (in-append p a b i),
-  once-append a b (x .1) y (λ r i. apart r (in-behind (p ∷ []) a i)),
-)
-
--- what holds of all, of each
-all-in : (P : List Bool → Type 0) (p : List Bool) (l : List (List Bool)) → All P l → In p l → P p
-all-in P p [] x i = absurd (in-none p i)
-all-in P p (r ∷ l) x i = ⊎-elim (λ (e : p ≡ r). subst P (sym e) (x .0)) (all-in P p l (x .1)) (in-cons p r l i)
-
 -- no string begins with itself and a bit more
 no-longer : (p : List Bool) (a : Bool) → isPrefix (p ++ (a ∷ [])) p ≡ true → ⊥
 no-longer p a e =
@@ -386,15 +352,19 @@ no-longer p a e =
       length-append p (a ∷ []),
     )
 
-pub nodes-once : (m : ℕ) (q : List Bool) (t : Tree) → Under m q t → Once (nodes t)
-unfolding nodes
-nodes-once m q (leaf n) u = tt
+pub nodes-once : (m : ℕ) (q : List Bool) (t : Tree) → Under m q t → List·Nodup (nodes t)
+unfolding nodes nodup-cons nodup-append
+nodes-once m q (leaf n) u = Pairwise·nil
 nodes-once m q (node p z o) u =
     let zs = nodes-begin m (p ++ (false ∷ [])) z (u .1) in
-    let os = nodes-begin m (p ++ (true ∷ [])) o (u .2) in (
-      λ (i : In p (nodes z ++ nodes o)).
-          ⊎-elim (λ (j : In p (nodes z)). no-longer p false (all-in _ p (nodes z) zs j)) (λ (j : In p (nodes o)). no-longer p true (all-in _ p (nodes o) os j))
-          (in-append p (nodes z) (nodes o) i),
-      once-append (nodes z) (nodes o) (nodes-once m _ z (u .1)) (nodes-once m _ o (u .2))
-          (λ r i j. begins-one p r (all-in _ r (nodes z) zs i) (all-in _ r (nodes o) os j)),
+    let os = nodes-begin m (p ++ (true ∷ [])) o (u .2) in
+    nodup-cons .1 (
+      λ (i : List·Mem p (nodes z ++ nodes o)).
+          ∥∥₁-elim i ⊥-prop (λ j.
+          ⊎-elim (λ k. no-longer p false (all-in _ p (nodes z) zs k)) (λ k. no-longer p true (all-in _ p (nodes o) os k)) (List·Memᴰ·append-cases (nodes z) j)),
+      nodup-append .1 (
+        nodes-once m _ z (u .1),
+        nodes-once m _ o (u .2),
+        λ r i j. ∥∥₁-elim i ⊥-prop (λ a. ∥∥₁-elim j ⊥-prop (λ b. begins-one p r (all-in _ r (nodes z) zs a) (all-in _ r (nodes o) os b))),
+      ),
     )

@@ -318,6 +318,12 @@ cursor-node {m} {N} {f} {q} {s} {w} {r} {c} a low h = go (a .k) f (a .all) (a .f
           };
         }
 
+-- the number of the codeword that goes on with a 0 and m ones is not below the first with as many bits before them
+pub cursor-low : {m N f : ℕ} {q : List Bool} {s w r c : ℕ} → Describes m N f q s w r c → first m (s + 1) ≤ w
+cursor-low {m} {q = q} {s} a =
+    let e : suc (length q) ≡ s + 1 = omega (arith, a .long) in
+    omega (arith, next-number m q, a .next-is, ap (first m) e)
+
 -- the codeword that goes on with ones only
 pub cursor-number : {m N f : ℕ} {q : List Bool} {s w r c : ℕ} → Describes m N f q s w r c → (1 ≤ c) × (isPrefix q (codeword m c) ≡ true)
 cursor-number {m} {q = q} {c = c} a =

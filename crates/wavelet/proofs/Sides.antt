@@ -9,10 +9,10 @@ use lib.Seq.{take-take, drop-drop, getD-take, getD-drop}
 use Rattle.bits.specs.Bits.{bitOf, count, selectBit}
 use Rattle.bits.proofs.Count.{count-between}
 use Rattle.fibonacci.specs.Code.{codeword}
-use Rattle.wavelet.specs.Nodes.{isPrefix, Tree, node, prune, visitsIn}
+use Rattle.wavelet.specs.Nodes.{isPrefix, Tree, node, prune}
 use Rattle.wavelet.specs.Bitmaps.{need, rowOfBitmaps}
 use Rattle.wavelet.specs.Questions.{uses, rankIn}
-use Rattle.wavelet.specs.Leaves.{CursorAt, side, ends, Aligned}
+use Rattle.wavelet.specs.Leaves.{CursorAt, side, ends, visitsIn, Aligned}
 use Rattle.wavelet.specs.declared.Cursor.{Cursor}
 use Rattle.wavelet.proofs.Strings.{begins-next}
 use Rattle.wavelet.proofs.Pruned.{cursor-longer}

@@ -9,12 +9,12 @@ use Rattle.bits.specs.Bits.{sameBit}
 use Rattle.calls.proofs.Checks.{both}
 use Rattle.wavelet.specs.Nodes.{isPrefix}
 
-is-same : (a c : Bool) → sameBit a c ≡ true → a ≡ c
+pub is-same : (a c : Bool) → sameBit a c ≡ true → a ≡ c
 is-same true c e = sym e
 is-same false true e = e
 is-same false false e = refl
 
-is-self : (a : Bool) → sameBit a a ≡ true
+pub is-self : (a : Bool) → sameBit a a ≡ true
 is-self true = refl
 is-self false = refl
 

@@ -14,9 +14,10 @@ use Rattle.lists.specs.Lists.{All, filter}
 use Rattle.lists.proofs.Filter.{filter-pass, filter-append, filter-none}
 use Rattle.bits.specs.Bits.{count, selectBit}
 use Rattle.fibonacci.specs.Code.{codeword}
-use Rattle.wavelet.specs.Nodes.{isPrefix, Tree, leaf, node, nodes, visitsIn}
+use Rattle.wavelet.specs.Nodes.{isPrefix, Tree, leaf, node, nodes}
 use Rattle.wavelet.specs.Bitmaps.{need, rowOfBitmaps}
 use Rattle.wavelet.specs.Questions.{uses, rankIn}
+use Rattle.wavelet.specs.Leaves.{visitsIn}
 use Rattle.wavelet.proofs.Strings.{begins-trans, begins-front, begins-one}
 use Rattle.wavelet.proofs.Merging.{merge-length, merge-at-one, merge-at-zero, all-merge}
 use Rattle.wavelet.proofs.Merging.{Without, rank-merge-one, rank-merge-zero, select-merge-one, select-merge-zero}

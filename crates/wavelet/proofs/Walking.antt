@@ -1,4 +1,4 @@
--- Where the bitmaps below a spot end, step by step.
+-- Where the bitmaps below a string of the tree end, step by step.
 use mathlib.Core.Path.{_≡_, refl, sym, _∙_, subst}
 use mathlib.Core.Bool.{Bool, true, false, true≢false}
 use mathlib.Core.List.{List, [], _∷_, _++_}
@@ -11,24 +11,43 @@ use lib.ListN.{length, take, drop}
 use borrow.Author.Tests.{lt-ltb, le-leb, ltb-true, leb-true}
 use Rattle.bits.specs.Bits.{unpack, count}
 use Rattle.bits.proofs.Bytes.{unpack-length}
-use Rattle.fibonacci.specs.Code.{codeword}
-use Rattle.fibonacci.specs.Tables.{Positions}
+use Rattle.fibonacci.specs.Code.{F, first, codeword}
+use Rattle.calls.specs.Limits.{Order}
 use Rattle.calls.proofs.Checks.{both}
 use Rattle.fibonacci.proofs.Numeration.{F-pos}
 use Rattle.wavelet.specs.Nodes.{isPrefix, leaf, prune}
 use Rattle.wavelet.specs.Questions.{maxAlphabet}
-use Rattle.wavelet.specs.Leaves.{CursorAt, Low, nodeTest, sideOf, ends, Ends, Starts, Closes}
+use Rattle.wavelet.specs.Leaves.{CursorAt, IsCursor, SomeNode, nodeTest, sideOf, ends, Ends, Starts, Closes}
 use Rattle.wavelet.specs.declared.Cursor.{Cursor}
-use Rattle.wavelet.proofs.Pruned.{cursor-node, cursor-high, cursor-full, high-only, full-only}
+use Rattle.wavelet.proofs.Pruned.{cursor-low, cursor-node, cursor-high, cursor-full, high-only, full-only}
+use Rattle.wavelet.proofs.Cursors.{deep, step-small}
 use Rattle.wavelet.proofs.Ends.{ends-none, ends-leaf, ends-short, ends-cut, ends-on}
 
 pub is-node : (m N : ℕ) (v : Cursor) → nodeTest m N v ≡ true → (v .ones < m) × (v .next ≤ N)
 is-node m N v e = let b = both (ltb (v .ones) m) (leb (v .next) N) e in (ltb-true _ _ (b .0), leb-true _ _ (b .1))
 
--- what the step to a side asks
-pub side-legal : (m N : ℕ) (v : Cursor) (row : List ℕ) → Positions m row → N ≤ maxAlphabet → Low m v → nodeTest m N v ≡ true
-    → Positions m row × Low m v × (v .next ≤ maxAlphabet) × (v .ones ≤ m)
-side-legal m N v row p h low e = let n = is-node m N v e in (p, low, omega (arith, n .1), omega (arith, n .0))
+-- a string of the tree, a node of it, and its sides
+pub is-low : (m N : ℕ) (v : Cursor) → IsCursor m N v → first m (v .depth + 1) ≤ v .next
+is-low m N v i = cursor-low (i .2)
+
+-- what is looked up for the step to a side, and what it adds up
+pub step-fits : (m : ℕ) (v : Cursor) → Order m → SomeNode m v
+    → (v .depth + 1 + m ≤ 47) × (F m (v .depth + 1) ≤ maxAlphabet) × (v .next ≤ maxAlphabet) × (v .ones < m)
+step-fits m v o s =
+    let n = is-node m (s .0) v (s .3) in
+    let low = is-low m (s .0) v (s .2) in
+    let high : v .next ≤ maxAlphabet = omega (arith, n .1, s .1) in
+    (deep m (v .depth) (v .next) o low high, step-small m (v .depth) (v .next) o low high, high, n .0)
+
+pub side-cursor : (m N : ℕ) (v : Cursor) (one : Bool) {u : Cursor} → IsCursor m N v → nodeTest m N v ≡ true → u ≡ sideOf m v one → IsCursor m N u
+side-cursor m N v one i e made =
+    let n = is-node m N v e in
+    let k = cursor-node (i .2) (n .0) (n .1) in
+    go one made (k .g, _, k .zero-side) (k .g, _, k .one-side)
+  where
+    go : (one : Bool) {u : Cursor} → u ≡ sideOf m v one → IsCursor m N (sideOf m v false) → IsCursor m N (sideOf m v true) → IsCursor m N u
+    go false made z o = rw made z
+    go true made z o = rw made o
 
 off-node : (m N : ℕ) (v : Cursor) → nodeTest m N v ≡ false → (m ≤ v .ones) ⊎ (N < v .next)
 off-node m N v e =

@@ -1,7 +1,6 @@
 -- The nodes of the row index (paper 01, "The row index"; source 000, section 4: the pruned Wavelet tree), for any order m and any alphabet 1 .. N.
-use mathlib.Core.Path.{_≡_}
 use mathlib.Core.Bool.{Bool, true, false, _&&_}
-use mathlib.Core.List.{List, [], _∷_, _++_}
+use mathlib.Core.List.{List, [], _∷_, _++_, map}
 use Prim.Native.Nat.{ℕ, zero, suc, _+_}
 use lib.Dec.{leb}
 use lib.ListN.{length}
@@ -56,19 +55,13 @@ unfoldable pub nodes : Tree → List (List Bool)
 nodes (leaf n) = []
 nodes (node p z o) = p ∷ (nodes z ++ nodes o)
 
--- How many nodes of a tree begin the codeword of n
-abbrev pub visitsIn : ℕ → Tree → ℕ → ℕ
-visitsIn m t n = length (filter (λ p. isPrefix p (codeword m n)) (nodes t))
+-- ## Visits
 
--- The visits of a number (paper 01: looks): how many nodes begin its codeword
+-- The beginnings of a string, from the empty one to the whole
+unfoldable pub prefixes : List Bool → List (List Bool)
+prefixes [] = [] ∷ []
+prefixes (a ∷ b) = [] ∷ map (λ p. a ∷ p) (prefixes b)
+
+-- The visits of a number (paper 01: looks): how many beginnings of its codeword are nodes
 unfoldable pub visits : ℕ → ℕ → ℕ → ℕ
-visits m N n = visitsIn m (tree m N) n
-
--- p is one of a list's strings
-abbrev pub In : List Bool → List (List Bool) → Type 0
-In p ps = (a : List (List Bool)) × (b : List (List Bool)) × (ps ≡ a ++ (p ∷ b))
-
--- No string stands twice in a list
-abbrev pub Once : List (List Bool) → Type 0
-Once [] = Unit {0}
-Once (p ∷ ps) = (In p ps → ⊥) × Once ps
+visits m N n = length (filter (isNode m N) (prefixes (codeword m n)))

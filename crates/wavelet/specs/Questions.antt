@@ -1,4 +1,5 @@
 -- Building an index and asking it (paper 01, "When a call says no": Build index, the three questions). The checks stand in the paper's order.
+use mathlib.Core.Path.{_≡_}
 use mathlib.Core.Bool.{Bool, true, not}
 use mathlib.Core.List.{List, map}
 use Prim.Native.Nat.{ℕ, _-_}
@@ -7,7 +8,7 @@ use lib.ListN.{length, getD, take}
 use Rattle.bits.specs.Bits.{count, selectBit}
 use Rattle.calls.specs.declared.Refusal.the-variants.{BadOrder, TooManyNumbers, NoRoom, BadPlace, BadUse, BadAlphabet, OutsideAlphabet, NotAnIndex, TooFewUses}
 use Rattle.calls.specs.Calls.{Outcome, accepted, check, buffer}
-use Rattle.calls.specs.Limits.{isOrder, isNumber, maxCount, checkEach}
+use Rattle.calls.specs.Limits.{isOrder, isNumber, isOutside, maxCount, checkEach}
 use Rattle.wavelet.specs.Nodes.{visits}
 use Rattle.wavelet.specs.Bitmaps.{bitmaps, index, isIndex, rowOfIndex}
 
@@ -33,6 +34,10 @@ build m N row room =
 -- The output after building
 unfoldable pub buildInto : ℕ → ℕ → List ℕ → List ℕ → List ℕ
 buildInto m N row before = buffer (build m N row (length before)) (index m N row) before
+
+-- What building promises: its answer, and the output afterwards
+abbrev pub BuildPromise : ℕ → ℕ → List ℕ → List ℕ → List ℕ → Outcome ℕ → Type 0
+BuildPromise m N row before after outcome = (outcome ≡ build m N row (length before)) × (after ≡ buildInto m N row before)
 
 -- ## What a row itself answers
 
@@ -64,7 +69,7 @@ extract m N k s i =
 unfoldable pub rank : ℕ → ℕ → ℕ → List ℕ → ℕ → ℕ → Outcome (ℕ × ℕ)
 rank m N k s n i =
     ask m N k s
-    (check (OutsideAlphabet 0) (not (isNumber N n))
+    (check (OutsideAlphabet 0) (isOutside N n)
     (check BadPlace (ltb k i)
     (accepted (rankIn (rowOfIndex m N k s) n i, visits m N n))))
 
@@ -72,7 +77,7 @@ rank m N k s n i =
 unfoldable pub select : ℕ → ℕ → ℕ → List ℕ → ℕ → ℕ → Outcome (ℕ × ℕ)
 select m N k s n j =
     ask m N k s
-    (check (OutsideAlphabet 0) (not (isNumber N n))
+    (check (OutsideAlphabet 0) (isOutside N n)
     (check BadUse (eqb j 0)
     (check TooFewUses (ltb (rankIn (rowOfIndex m N k s) n k) j)
     (accepted (selectIn (rowOfIndex m N k s) n j, visits m N n)))))

@@ -8,7 +8,7 @@ ghost use Rattle.calls.specs.Limits.{isNumber};
 ghost use Rattle.fibonacci.specs.Tables.{Positions};
 ghost use Rattle.codewords.specs.Leaves.{Tables};
 ghost use Rattle.wavelet.specs.Questions.{maxAlphabet, checkTree};
-ghost use Rattle.wavelet.specs.Leaves.{Low, nodeTest, sideOf, Aligned, Root};
+ghost use Rattle.wavelet.specs.Leaves.{SomeNode, nodeTest, sideOf, Aligned, Root};
 use calls::CountAnswer;
 use calls::Refusal;
 
@@ -70,11 +70,12 @@ pub fn is_node(order: usize, limit: u64, v: Cursor) -> bool
     v.ones < order && v.next <= limit
 }
 
-// The string with a bit more. A walk calls it where it has seen a node, from the root on. Every operation checks its order before, and takes its row of
-// position values.
+// The string with a bit more.
+// Requires: the position values of the order, which every operation has looked up, and a node of the tree of some alphabet, which a walk has found by
+// `is_node`; so the values that are added are there, and small.
 pub fn side(positions: &[u32; 47], order: usize, v: Cursor, one: bool) -> Cursor
-    requires { ⌜ Positions order (now positions) × Low order v × (v .next ≤ maxAlphabet) × (v .ones ≤ order) ⌝ }
-    ensures { λ r. ⌜ (r ≡ sideOf order v one) × Low order r ⌝ }
+    requires { ⌜ Positions order (now positions) × SomeNode order v ⌝ }
+    ensures { λ r. ⌜ r ≡ sideOf order v one ⌝ }
 {
     let depth = v.depth + 1;
     let step = fibonacci::position(positions, order, depth);
@@ -95,8 +96,8 @@ pub fn side(positions: &[u32; 47], order: usize, v: Cursor, one: bool) -> Cursor
     }
 }
 
-// The codeword of a number of the alphabet from the top of a word: at most 16 bits and the last ones. Building and `target_codeword` check the number before, and
-// every operation its order.
+// The codeword of a number of the alphabet from the top of a word: at most 16 bits and the last ones.
+// Requires: the tables of the order, which every operation has looked up, and a number from 1 to 4,096, which building and `target_codeword` check.
 pub fn aligned_codeword(
     positions: &[u32; 47],
     firsts: &[u32; 47],
@@ -111,8 +112,9 @@ pub fn aligned_codeword(
     (word.bits << (32 - word.len)) as u32
 }
 
-// The codeword of n from the top of a word. Where n is no number of the alphabet, any word does: a walk by it still shows whether the bytes are an index.
-// The walk of a question checks order and alphabet before.
+// The codeword of n from the top of a word. Where n is no number of the alphabet it may be any word, and that is enough: a walk by any word goes over every
+// bitmap and so shows whether the bytes are an index, and then the question refuses n.
+// Requires: the position values of the order, and an alphabet up to 4,096, both of which the walk of a question has checked.
 pub fn target_codeword(positions: &[u32; 47], order: usize, limit: u64, n: u64) -> u32
     requires { ⌜ Positions order (now positions) × (limit ≤ maxAlphabet) ⌝ }
     ensures { λ r. ⌜ (isNumber limit n ≡ true → Aligned order n r) ⌝ }
@@ -125,7 +127,8 @@ pub fn target_codeword(positions: &[u32; 47], order: usize, limit: u64, n: u64) 
     aligned_codeword(positions, &firsts, &low, order, n)
 }
 
-// The bit after `depth` others in a codeword that stands at the top of a word. The tree is at most 16 deep.
+// The bit after `depth` others in a codeword that stands at the top of a word.
+// Requires: fewer than 32 bits before it, which a walk shows: the tree is at most 16 deep.
 pub fn next_bit(x: u32, depth: usize) -> bool
     requires { ⌜ depth < 32 ⌝ }
     ensures { λ r. ⌜ r ≡ bitOf x (31 - depth) ⌝ }

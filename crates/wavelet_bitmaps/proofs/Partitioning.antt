@@ -1,4 +1,4 @@
--- What parting words by a bit has done after some of them.
+-- What partitioning words by a bit has done after some of them.
 use mathlib.Core.Path.{_≡_, refl, sym, ap, ap₂, _∙_}
 use mathlib.Core.Bool.{Bool, true, false, not}
 use mathlib.Core.List.{List, [], _∷_, _++_, map, append-nil}
@@ -21,7 +21,7 @@ bit-few false = omega arith
 bit-few true = omega arith
 
 -- After i of the words xs: they have become x, of which z are zeros, the spare words t begin with o ones, and the bits b have become c
-pub record Parting (f : ℕ → Bool) (xs x t : List ℕ) (z o i : ℕ) (at : ℕ) (b c : List Bool) : Type 0 where
+pub record Partition (f : ℕ → Bool) (xs x t : List ℕ) (z o i : ℕ) (at : ℕ) (b c : List Bool) : Type 0 where
   pub long : length x ≡ length xs
   pub spare : length xs ≤ length t
   pub within : i ≤ length xs
@@ -32,13 +32,13 @@ pub record Parting (f : ℕ → Bool) (xs x t : List ℕ) (z o i : ℕ) (at : �
   pub bits : c ≡ sets b at (map f (take i xs))
 
 -- at the start
-pub parting-none : (f : ℕ → Bool) (xs t : List ℕ) (at : ℕ) (b : List Bool) → length xs ≤ length t → Parting f xs xs t 0 0 0 at b b
+pub partition-none : (f : ℕ → Bool) (xs t : List ℕ) (at : ℕ) (b : List Bool) → length xs ≤ length t → Partition f xs xs t 0 0 0 at b b
 unfolding filter
-parting-none f xs t at b h =
+partition-none f xs t at b h =
     record { long = refl; spare = h; within = omega arith; split = omega arith; zeros = refl; ones = refl; rest = refl; bits = refl }
 
 -- one word more
-module _ {f : ℕ → Bool} {xs x t : List ℕ} {z o i at : ℕ} {b c : List Bool} (h : Parting f xs x t z o i at b c) (l : i < length xs) where
+module _ {f : ℕ → Bool} {xs x t : List ℕ} {z o i at : ℕ} {b c : List Bool} (h : Partition f xs x t z o i at b c) (l : i < length xs) where
   -- the next word has not been written over
   here : getD x i 0 ≡ getD xs i 0
   here = sym (front x) ∙ ap (λ (y : List ℕ). getD y 0 0) (h .rest) ∙ front xs
@@ -66,9 +66,9 @@ module _ {f : ℕ → Bool} {xs x t : List ℕ} {z o i at : ℕ} {b c : List Boo
       ∙ sym (ap (sets b at) (map-next xs i 0 l f) ∙ sets-append b at (map f (take i xs)) (f (getD xs i 0) ∷ []))
 
   -- the word is stored behind the zeros and behind the ones, and its bit says which of the two are one more
-  pub parting-next : (v : Bool) → f (getD x i 0) ≡ v → (z' : ℕ) → z' + (o + boolByte v) ≡ i + 1
-      → Parting f xs (set x z (getD x i 0)) (set t o (getD x i 0)) z' (o + boolByte v) (i + 1) at b (set c (at + i) v)
-  parting-next v e z' n =
+  pub partition-next : (v : Bool) → f (getD x i 0) ≡ v → (z' : ℕ) → z' + (o + boolByte v) ≡ i + 1
+      → Partition f xs (set x z (getD x i 0)) (set t o (getD x i 0)) z' (o + boolByte v) (i + 1) at b (set c (at + i) v)
+  partition-next v e z' n =
       record {
         long = rw length-set (h .long);
         spare = rw length-set (h .spare);
@@ -99,7 +99,7 @@ module _ {f : ℕ → Bool} {xs x t : List ℕ} {z o i at : ℕ} {b c : List Boo
           stored t o (omega (arith, h .split, h .spare)) ∙ ap₂ (λ (y : List ℕ) (n : ℕ). y ++ (n ∷ [])) (h .ones) here ∙ sym (pass-next xs i 0 l f w)
 
 -- all of them
-module _ {f : ℕ → Bool} {xs x t : List ℕ} {z o i at : ℕ} {b c : List Bool} (h : Parting f xs x t z o i at b c) (l : length xs ≤ i) where
+module _ {f : ℕ → Bool} {xs x t : List ℕ} {z o i at : ℕ} {b c : List Bool} (h : Partition f xs x t z o i at b c) (l : length xs ≤ i) where
   all : take i xs ≡ xs
   all = take-all i xs l
 
@@ -107,14 +107,14 @@ module _ {f : ℕ → Bool} {xs x t : List ℕ} {z o i at : ℕ} {b c : List Boo
   zero-words = h .zeros ∙ ap (filter (λ (n : ℕ). not (f n))) all
 
   -- how many zeros there are
-  pub parted-count : z ≡ count false (map f xs)
-  parted-count =
+  pub partitioned-count : z ≡ count false (map f xs)
+  partitioned-count =
       sym (length-take-le z x (omega (arith, h .split, h .within, h .long))) ∙ ap length zero-words ∙ filter-count f xs
 
   -- the ones put back behind the zeros
-  pub parted-words : (y : List ℕ) → y ≡ take o t ++ drop o (take (length x - z) (drop z x))
+  pub partitioned-words : (y : List ℕ) → y ≡ take o t ++ drop o (take (length x - z) (drop z x))
       → take z x ++ (y ++ drop (length x - z) (drop z x)) ≡ filter (λ n. not (f n)) xs ++ filter f xs
-  parted-words y e =
+  partitioned-words y e =
       let behind : drop o (take (length x - z) (drop z x)) ≡ [] =
       drop-of-length-le _ {i = o} (omega (arith, length-take (length x - z) (drop z x), h .split, h .long)) in
       let after : drop (length x - z) (drop z x) ≡ [] = drop-of-length-le (drop z x) {i = length x - z} (omega (arith, length-drop z x)) in
@@ -123,5 +123,5 @@ module _ {f : ℕ → Bool} {xs x t : List ℕ} {z o i at : ℕ} {b c : List Boo
       ∙ ap₂ (λ (u v : List ℕ). u ++ v) zero-words (h .ones ∙ ap (filter f) all)
 
   -- their bits
-  pub parted-bits : c ≡ sets b at (map f xs)
-  parted-bits = h .bits ∙ ap (λ (y : List ℕ). sets b at (map f y)) all
+  pub partitioned-bits : c ≡ sets b at (map f xs)
+  partitioned-bits = h .bits ∙ ap (λ (y : List ℕ). sets b at (map f y)) all

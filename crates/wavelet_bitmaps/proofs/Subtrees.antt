@@ -1,4 +1,4 @@
--- What spreading writes below a string: nothing for no words and at a leaf, and at a node its bitmap and what its sides write.
+-- What is written below a string: nothing for no words and at a leaf, and at a node its bitmap and what its sides write.
 use mathlib.Core.Path.{_≡_, refl, sym, ap, ap₂, _∙_, subst}
 use mathlib.Core.Bool.{Bool, true, false, not}
 use mathlib.Core.List.{List, [], _∷_, _++_, map, flatten, append-assoc}
@@ -19,8 +19,7 @@ use Rattle.fibonacci.specs.Encoding.{Positive}
 use Rattle.wavelet.specs.Nodes.{isPrefix, Tree, prune, tree, nodes}
 use Rattle.wavelet.specs.Bitmaps.{bitmap, joined, bitmaps}
 use Rattle.wavelet.specs.Questions.{maxAlphabet}
-use Rattle.wavelet.specs.Answers.{Passed}
-use Rattle.wavelet.specs.Leaves.{CursorAt, Aligned, sideOf, Root, nodeTest}
+use Rattle.wavelet.specs.Leaves.{Passed, CursorAt, IsCursor, Aligned, sideOf, Root, nodeTest}
 use Rattle.wavelet.specs.declared.Cursor.{Cursor}
 use Rattle.wavelet.proofs.Strings.{begins-front}
 use Rattle.wavelet.proofs.Pruned.{cursor-node, cursor-longer}
@@ -29,7 +28,7 @@ use Rattle.wavelet.proofs.Walking.{is-node, is-leaf}
 use Rattle.wavelet.proofs.Nodes.{cursor-under}
 use Rattle.wavelet.proofs.Rows.{at, at-all, Sided, sided-longer, joined-node, joined-none}
 use Rattle.wavelet.proofs.Answering.{at-root}
-use Rattle.wavelet_bitmaps.specs.Leaves.{AllAligned, bitAfter, partitioned, room, WritesSubtree, WritesBitmaps}
+use Rattle.wavelet_bitmaps.specs.Leaves.{AllAligned, bitAfter, partitioned, room, HasWords, WritesSubtree, HasRow, WritesBitmaps}
 use Rattle.bits.proofs.Count.{filter-count}
 
 -- ## The room that bitmaps take
@@ -45,7 +44,7 @@ room-split s n z o h e =
     let d : 16 - s ≡ suc k = omega arith in
     ap (λ (x : ℕ). x * n) d ∙ suc-mul k n ∙ ap (λ (x : ℕ). k * x + n) (sym e) ∙ omega (arith, mul-add k z o)
 
--- so for parted words
+-- so for partitioned words
 pub room-sides : (s n z : ℕ) (l : List ℕ) {uz uo : ℕ} → s < 16 → length l ≡ n → uz ≡ s + 1 → uo ≡ s + 1
     → room s n ≡ n + (room uz (length (take z l)) + room uo (length (drop z l)))
 room-sides s n z l h e zero-is one-is =
@@ -59,11 +58,11 @@ side-depth m v u true e = ap (λ (w : Cursor). w .depth) e
 -- ## Words and the numbers whose codewords they have
 
 -- the bits of the words are those of the codewords
-paths-bits : (m s : ℕ) (l xs : List ℕ) → s < 32 → AllAligned m l xs → map (bitAfter s) xs ≡ map (λ n. getD (codeword m n) s false) l
-paths-bits m s [] [] h p = refl
-paths-bits m s [] (x ∷ xs) h p = absurd p
-paths-bits m s (n ∷ l) [] h p = absurd p
-paths-bits m s (n ∷ l) (x ∷ xs) h p = ap₂ (λ (a : Bool) (b : List Bool). a ∷ b) (p .0 s h) (paths-bits m s l xs h (p .1))
+aligned-bits : (m s : ℕ) (l xs : List ℕ) → s < 32 → AllAligned m l xs → map (bitAfter s) xs ≡ map (λ n. getD (codeword m n) s false) l
+aligned-bits m s [] [] h p = refl
+aligned-bits m s [] (x ∷ xs) h p = absurd p
+aligned-bits m s (n ∷ l) [] h p = absurd p
+aligned-bits m s (n ∷ l) (x ∷ xs) h p = ap₂ (λ (a : Bool) (b : List Bool). a ∷ b) (p .0 s h) (aligned-bits m s l xs h (p .1))
 
 -- words chosen as their numbers are
 aligned-filter : (m : ℕ) (f g : ℕ → Bool) (P : ℕ → Type 0) → ((n x : ℕ) → P n → Aligned m n x → f x ≡ g n) → (l xs : List ℕ) → All P l → AllAligned m l xs
@@ -78,10 +77,14 @@ aligned-filter m f g P same (n ∷ l) (x ∷ xs) a p = go (g n) refl (aligned-fi
     go false e ih = rw (filter-fail g n l e, filter-fail f x xs (same n x (a .0) (p .0) ∙ e)) ih
 
 -- no words, no numbers
-paths-none : (m : ℕ) (l xs : List ℕ) → length xs ≡ 0 → AllAligned m l xs → l ≡ []
-paths-none m [] xs e p = refl
-paths-none m (n ∷ l) [] e p = absurd p
-paths-none m (n ∷ l) (x ∷ xs) e p = absurd (omega arith)
+aligned-none : (m : ℕ) (l xs : List ℕ) → length xs ≡ 0 → AllAligned m l xs → l ≡ []
+aligned-none m [] xs e p = refl
+aligned-none m (n ∷ l) [] e p = absurd p
+aligned-none m (n ∷ l) (x ∷ xs) e p = absurd (omega arith)
+
+-- the string that they are below
+pub words-cursor : (m N : ℕ) (v : Cursor) (xs : List ℕ) → HasWords m N v xs → IsCursor m N v
+words-cursor m N v xs (f, q, row, (h, pos, p)) = (f, q, h)
 
 -- ## No words, and a leaf
 
@@ -93,30 +96,30 @@ module _ (m N : ℕ) (v : Cursor) (xs : List ℕ) (at : ℕ) (b : List ℕ) wher
 
   -- no numbers below a string, no bitmaps
   pub subtree-none : length xs ≡ 0 → WritesSubtree m N v xs at b at b
-  subtree-none e f q row pos h p =
-      nothing (prune m N f q) row (joined-none m q (prune m N f q) (cursor-under h) row (paths-none m _ xs e p))
+  subtree-none e f q row w =
+      nothing (prune m N f q) row (joined-none m q (prune m N f q) (cursor-under (w .0)) row (aligned-none m _ xs e (w .2)))
 
   -- a leaf has none
   pub subtree-leaf : nodeTest m N v ≡ false → WritesSubtree m N v xs at b at b
   unfolding joined nodes flatten
-  subtree-leaf e f q row pos h p = nothing (prune m N f q) row (ap (λ (t : Tree). joined m t row) (is-leaf m N v e f q h))
+  subtree-leaf e f q row w = nothing (prune m N f q) row (ap (λ (t : Tree). joined m t row) (is-leaf m N v e f q (w .0)))
 
 -- ## A node
 
--- the sides of parted words
+-- the sides of partitioned words
 module _ (s : ℕ) (xs : List ℕ) (z : ℕ) (e : z ≡ count false (map (bitAfter s) xs)) where
   zeros-long : length (filter (λ x. not (bitAfter s x)) xs) ≡ z
   zeros-long = filter-count (bitAfter s) xs ∙ sym e
 
   -- how many have a 0, those, and the others
-  pub parted-few : z ≤ length xs
-  parted-few = omega (arith, e, count-le false (map (bitAfter s) xs), length-map xs (bitAfter s))
+  pub partitioned-few : z ≤ length xs
+  partitioned-few = omega (arith, e, count-le false (map (bitAfter s) xs), length-map xs (bitAfter s))
 
-  pub parted-zeros : take z (partitioned s xs) ≡ filter (λ x. not (bitAfter s x)) xs
-  parted-zeros = take-at (filter (λ x. not (bitAfter s x)) xs) (filter (bitAfter s) xs) z zeros-long
+  pub partitioned-zeros : take z (partitioned s xs) ≡ filter (λ x. not (bitAfter s x)) xs
+  partitioned-zeros = take-at (filter (λ x. not (bitAfter s x)) xs) (filter (bitAfter s) xs) z zeros-long
 
-  pub parted-ones : drop z (partitioned s xs) ≡ filter (bitAfter s) xs
-  parted-ones = drop-at (filter (λ x. not (bitAfter s x)) xs) (filter (bitAfter s) xs) z zeros-long
+  pub partitioned-ones : drop z (partitioned s xs) ≡ filter (bitAfter s) xs
+  partitioned-ones = drop-at (filter (λ x. not (bitAfter s x)) xs) (filter (bitAfter s) xs) z zeros-long
 
 module _ (m N : ℕ) (v : Cursor) (xs : List ℕ) (test : nodeTest m N v ≡ true) (short : v .depth < 16) where
   module _ (f : ℕ) (q : List Bool) (row : List ℕ) (pos : Positive row) (h : CursorAt m N f q v) (p : AllAligned m (filter (λ n. isPrefix q (codeword m n)) row) xs) where
@@ -130,7 +133,7 @@ module _ (m N : ℕ) (v : Cursor) (xs : List ℕ) (test : nodeTest m N v ≡ tru
     bits-are : map (bitAfter (v .depth)) xs ≡ bitmap m row q
     unfolding bitmap
     bits-are =
-        paths-bits m (v .depth) (at m q row) xs (omega arith) p
+        aligned-bits m (v .depth) (at m q row) xs (omega arith) p
         ∙ ap (λ (s : ℕ). map (λ (n : ℕ). getD (codeword m n) s false) (at m q row)) (sym (h .long))
 
     -- a word's bit, by its number
@@ -138,17 +141,28 @@ module _ (m N : ℕ) (v : Cursor) (xs : List ℕ) (test : nodeTest m N v ≡ tru
     bit-of n x d = d (v .depth) (omega arith) ∙ ap (λ (s : ℕ). getD (codeword m n) s false) (sym (h .long))
 
     -- the words on each side have the codewords of its numbers
-    zero-paths : AllAligned m (at m (q ++ (false ∷ [])) row) (filter (λ x. not (bitAfter (v .depth) x)) xs)
-    zero-paths =
+    zero-aligned : AllAligned m (at m (q ++ (false ∷ [])) row) (filter (λ x. not (bitAfter (v .depth) x)) xs)
+    zero-aligned =
         subst (λ (l : List ℕ). AllAligned m l (filter (λ x. not (bitAfter (v .depth) x)) xs))
         (filter-within _ _ (λ n. begins-front q (codeword m n) false) row)
         (aligned-filter m _ (λ n. isPrefix (q ++ (false ∷ [])) (codeword m n)) (Sided m q) (λ n x a d. ap not (bit-of n x d) ∙ sym (a .0)) (at m q row) xs sided p)
 
-    one-paths : AllAligned m (at m (q ++ (true ∷ [])) row) (filter (bitAfter (v .depth)) xs)
-    one-paths =
+    one-aligned : AllAligned m (at m (q ++ (true ∷ [])) row) (filter (bitAfter (v .depth)) xs)
+    one-aligned =
         subst (λ (l : List ℕ). AllAligned m l (filter (bitAfter (v .depth)) xs))
         (filter-within _ _ (λ n. begins-front q (codeword m n) true) row)
         (aligned-filter m _ (λ n. isPrefix (q ++ (true ∷ [])) (codeword m n)) (Sided m q) (λ n x a d. bit-of n x d ∙ sym (a .1)) (at m q row) xs sided p)
+
+  -- so there are such words on each side
+  pub words-zero : HasWords m N v xs → {u : Cursor} {ys : List ℕ} → u ≡ sideOf m v false → ys ≡ filter (λ x. not (bitAfter (v .depth) x)) xs → HasWords m N u ys
+  words-zero (f, q, row, (h, pos, p)) is-zero zs =
+      let k = cursor-node h (is-node m N v test .0) (is-node m N v test .1) in
+      (k .g, q ++ (false ∷ []), row, (rw is-zero (k .zero-side), pos, rw zs (zero-aligned f q row pos h p)))
+
+  pub words-one : HasWords m N v xs → {u : Cursor} {ys : List ℕ} → u ≡ sideOf m v true → ys ≡ filter (bitAfter (v .depth)) xs → HasWords m N u ys
+  words-one (f, q, row, (h, pos, p)) is-one os =
+      let k = cursor-node h (is-node m N v test .0) (is-node m N v test .1) in
+      (k .g, q ++ (true ∷ []), row, (rw is-one (k .one-side), pos, rw os (one-aligned f q row pos h p)))
 
   -- its bitmap from bit `at` on, then what its sides write
   module _ (at mid end : ℕ) (xz xo b0 b1 b2 b3 : List ℕ) (uz uo : Cursor)
@@ -157,15 +171,15 @@ module _ (m N : ℕ) (v : Cursor) (xs : List ℕ) (test : nodeTest m N v ≡ tru
       (bits : unpack b1 ≡ sets (unpack b0) at (map (bitAfter (v .depth)) xs))
       (sz : WritesSubtree m N uz xz (at + length xs) b1 mid b2) (so : WritesSubtree m N uo xo mid b2 end b3) where
     pub subtree-node : WritesSubtree m N v xs at b0 end b3
-    subtree-node f q row pos h p =
+    subtree-node f q row (h, pos, p) =
         let k = cursor-node h (is-node m N v test .0) (is-node m N v test .1) in
         let tz : Tree = prune m N (k .g) (q ++ (false ∷ [])) in
         let to : Tree = prune m N (k .g) (q ++ (true ∷ [])) in
         let jb : List Bool = bitmap m row q in
         let jz : List Bool = joined m tz row in
         let jo : List Bool = joined m to row in
-        let z = sz (k .g) (q ++ (false ∷ [])) row pos (rw is-zero (k .zero-side)) (rw zs (zero-paths f q row pos h p)) in
-        let o = so (k .g) (q ++ (true ∷ [])) row pos (rw is-one (k .one-side)) (rw os (one-paths f q row pos h p)) in
+        let z = sz (k .g) (q ++ (false ∷ [])) row (rw is-zero (k .zero-side), pos, rw zs (zero-aligned f q row pos h p)) in
+        let o = so (k .g) (q ++ (true ∷ [])) row (rw is-one (k .one-side), pos, rw os (one-aligned f q row pos h p)) in
         let all : joined m (prune m N f q) row ≡ jb ++ (jz ++ jo) = ap (λ (t : Tree). joined m t row) (k .tree-is) ∙ joined-node m q tz to row in
         let here : map (bitAfter (v .depth)) xs ≡ jb = bits-are f q row pos h p in
         let long : length jb ≡ length xs = ap length (sym here) ∙ length-map xs (bitAfter (v .depth)) in
@@ -184,11 +198,15 @@ module _ (m N : ℕ) (v : Cursor) (xs : List ℕ) (test : nodeTest m N v ≡ tru
 pub root-room : (v : Cursor) (k : ℕ) → Root v → room (v .depth) k ≡ 16 * k
 root-room v k r = ap (λ (s : ℕ). room s k) (r .0)
 
+-- the words of a whole row are below its root
+pub root-words : {m N k : ℕ} → Passed m N k → {v : Cursor} → Root v → (xs : List ℕ) → HasRow m xs → {l : ℕ} → l ≡ N → HasWords m l v xs
+root-words {m} {N} p r xs (row, pos, d) same = rw same (m + N, [], row, (at-root p r, pos, rw (at-all m row) d))
+
 -- what is written below its root
 pub root-written : {m N k : ℕ} → Passed m N k → {v : Cursor} → Root v
     → (limit : ℕ) (xs before : List ℕ) (bits : ℕ) (after : List ℕ) → limit ≡ N → WritesSubtree m limit v xs 0 before bits after → WritesBitmaps m N xs before bits after
 unfolding bitmaps tree
 root-written {m} {N} p {v} r limit xs before bits after e s row pos d =
     let t : WritesSubtree m N v xs 0 before bits after = subst (λ (n : ℕ). WritesSubtree m n v xs 0 before bits after) e s in
-    let x = t (m + N) [] row pos (at-root p r) (rw (at-all m row) d) in
+    let x = t (m + N) [] row (at-root p r, pos, rw (at-all m row) d) in
     (x .0 ∙ zero-add _, x .1)

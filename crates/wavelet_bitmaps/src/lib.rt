@@ -1,23 +1,15 @@
 // Writing the bitmaps of a row: those below a string of the tree, a node first, then its 0 side, then its 1 side.
-ghost use mathlib.Core.Path.{_≡_};
-ghost use mathlib.Core.Bool.{false};
-ghost use mathlib.Core.List.{map};
-ghost use Prim.Native.Nat.{_+_, _*_, _^_, _≤_, _<_};
-ghost use lib.ListN.{length};
-ghost use lib.Seq.{sets};
-ghost use Rattle.bits.specs.Bits.{unpack, count};
-ghost use Rattle.fibonacci.specs.Tables.{Positions};
-ghost use Rattle.wavelet.specs.Questions.{maxAlphabet};
-ghost use Rattle.wavelet.specs.Answers.{Passed};
-ghost use Rattle.wavelet.specs.Leaves.{Low, maxIndexBytes};
-ghost use Rattle.wavelet_bitmaps.specs.Leaves.{bitAfter, partitioned, room, WritesSubtree, WritesBitmaps};
+ghost use Prim.Native.Nat.{_*_, _≤_};
+ghost use Rattle.wavelet.specs.Leaves.{maxIndexBytes};
+ghost use Rattle.wavelet_bitmaps.specs.Leaves.{PartitionReady, Partitions, SubtreeReady, SubtreePromise, BitmapsReady, WritesBitmaps};
 
-// A node: writes the next bits of the words' codewords as its bitmap from bit `at` on, and parts the words by them, those with a 0 first; the result is how
-// many those are. The others go by way of `spare`. No branch goes by a bit, which a processor cannot foretell: each word is stored on both sides, and its
-// bit says on which it stays.
+// A node: writes the next bits of the words' codewords as its bitmap from bit `at` on, and partitions the words by them, those with a 0 first; the result is
+// how many those are. The others go by way of `spare`. No branch goes by a bit, which a processor cannot foretell: each word is stored on both sides, and
+// its bit says on which it stays.
+// Requires: fewer than 32 bits before, as many words to spare, and room for the bitmap, all of which `write_subtree` shows of a node.
 fn partition(words: &mut [u32], spare: &mut [u32], depth: usize, out: &mut [u8], at: usize) -> usize
-    requires { ⌜ (depth < 32) × (length (now words) ≤ length (now spare)) × (at + length (now words) ≤ 8 * length (now out)) × (8 * length (now out) < 2 ^ 64) ⌝ }
-    ensures { λ r. ⌜ (r ≡ count false (map (bitAfter depth) (now (words .entry)))) × (now (words .exit) ≡ partitioned depth (now (words .entry))) × (unpack (now (out .exit)) ≡ sets (unpack (now (out .entry))) at (map (bitAfter depth) (now (words .entry)))) ⌝ }
+    requires { ⌜ PartitionReady depth (now words) (now spare) (now out) at ⌝ }
+    ensures { λ r. ⌜ Partitions depth (now (words .entry)) r (now (words .exit)) at (now (out .entry)) (now (out .exit)) ⌝ }
 {
     let mut ones: usize = 0;
     for i in 0..words.len() {
@@ -34,7 +26,9 @@ fn partition(words: &mut [u32], spare: &mut [u32], depth: usize, out: &mut [u8],
 }
 
 // Writes the bitmaps below a string, from bit `at` on, of the numbers whose codewords the words have; the result is where they end. At a node the words
-// are parted in place, so each side has its own part of them, in the row's order.
+// are partitioned in place, so each side has its own range of them, in the row's order.
+// Requires: a legal order and alphabet, the codewords of some row's numbers below a string of the tree, as many words to spare, and room for the bitmaps,
+// all of which `write_bitmaps` shows of the root and a node shows of its sides.
 fn write_subtree(
     positions: &[u32; 47],
     order: usize,
@@ -45,8 +39,8 @@ fn write_subtree(
     out: &mut [u8],
     at: usize,
 ) -> usize
-    requires { ⌜ Positions order (now positions) × (limit ≤ maxAlphabet) × Low order v × (length (now words) ≤ length (now spare)) × (at + room (v .depth) (length (now words)) ≤ 8 * length (now out)) × (length (now out) ≤ maxIndexBytes) ⌝ }
-    ensures { λ r. ⌜ (r ≤ at + room (v .depth) (length (now (words .entry)))) × WritesSubtree order limit v (now (words .entry)) at (now (out .entry)) r (now (out .exit)) ⌝ }
+    requires { ⌜ SubtreeReady order limit v (now positions) (now words) (now spare) (now out) at ⌝ }
+    ensures { λ r. ⌜ SubtreePromise order limit v (now (words .entry)) at (now (out .entry)) r (now (out .exit)) ⌝ }
 {
     let n = words.len();
     if n == 0 {
@@ -80,8 +74,8 @@ fn write_subtree(
     )
 }
 
-// Writes the bitmaps of a row from the front of a buffer; the words have the codewords of its numbers. The result is how many bits they have. Building
-// checks order, alphabet and length before.
+// Writes the bitmaps of a row from the front of a buffer; the words have the codewords of its numbers. The result is how many bits they have.
+// Requires: a legal order, alphabet and length, the position values of the order, and the codewords of a row, all of which building checks or makes.
 pub fn write_bitmaps(
     positions: &[u32; 47],
     order: usize,
@@ -89,7 +83,7 @@ pub fn write_bitmaps(
     words: &mut [u32],
     out: &mut [u8],
 ) -> usize
-    requires { ⌜ Positions order (now positions) × Passed order alphabet (length (now words)) × (length (now out) ≡ maxIndexBytes) ⌝ }
+    requires { ⌜ BitmapsReady order alphabet (now positions) (now words) (now out) ⌝ }
     ensures { λ r. ⌜ (r ≤ 8 * maxIndexBytes) × WritesBitmaps order alphabet (now (words .entry)) (now (out .entry)) r (now (out .exit)) ⌝ }
 {
     let limit = calls::wide(alphabet);

@@ -17,11 +17,11 @@ use Rattle.wavelet_bitmaps.specs.Leaves.{AllAligned}
 use Rattle.wavelet_build.specs.Leaves.{Fills}
 
 -- a number and its word more
-paths-snoc : (m : ℕ) (l xs : List ℕ) (n x : ℕ) → AllAligned m l xs → Aligned m n x → AllAligned m (l ++ (n ∷ [])) (xs ++ (x ∷ []))
-paths-snoc m [] [] n x p d = (d, tt)
-paths-snoc m [] (y ∷ xs) n x p d = absurd p
-paths-snoc m (k ∷ l) [] n x p d = absurd p
-paths-snoc m (k ∷ l) (y ∷ xs) n x p d = (p .0, paths-snoc m l xs n x (p .1) d)
+aligned-snoc : (m : ℕ) (l xs : List ℕ) (n x : ℕ) → AllAligned m l xs → Aligned m n x → AllAligned m (l ++ (n ∷ [])) (xs ++ (x ∷ []))
+aligned-snoc m [] [] n x p d = (d, tt)
+aligned-snoc m [] (y ∷ xs) n x p d = absurd p
+aligned-snoc m (k ∷ l) [] n x p d = absurd p
+aligned-snoc m (k ∷ l) (y ∷ xs) n x p d = (p .0, aligned-snoc m l xs n x (p .1) d)
 
 -- After i numbers: none of them is at fault, and the first i words have their codewords
 abbrev pub Filling : ℕ → ℕ → List ℕ → ℕ → List ℕ → Type 0
@@ -39,7 +39,7 @@ module _ (m limit : ℕ) (row : List ℕ) (i : ℕ) (words : List ℕ) (f : Fill
     pub filling-more : (x : ℕ) → i < length words → isNumber limit n ≡ true → Aligned m n x → Filling m limit row (i + 1) (set words i x)
     filling-more x l q d = (
       f .0 ∙ each-more OutsideAlphabet limit row i n h e (accepted (length row)) q,
-      rw (take-next row i 0 h, ← e, add-one, take-suc-set words i x l) (paths-snoc m (take i row) (take i words) n x (f .1) d),
+      rw (take-next row i 0 h, ← e, add-one, take-suc-set words i x l) (aligned-snoc m (take i row) (take i words) n x (f .1) d),
     )
 
     -- it is at fault

@@ -1,15 +1,16 @@
 // Building the index of a row.
-ghost use mathlib.Core.Path.{_≡_};
 ghost use Prim.Native.Nat.{_≤_};
 ghost use lib.ListN.{length};
 ghost use Rattle.calls.specs.Calls.{countOutcome};
 ghost use Rattle.fibonacci.specs.Tables.{Positions};
-ghost use Rattle.wavelet.specs.Questions.{maxAlphabet, build, buildInto};
+ghost use Rattle.wavelet.specs.Questions.{maxAlphabet, BuildPromise};
 ghost use Rattle.wavelet_build.specs.Leaves.{Fills};
 use calls::CountAnswer;
 use calls::Refusal;
 
-// The codewords of a row's numbers, each from the top of a word, up to the first number at fault; how many they are.
+// The codewords of a row's numbers, each from the top of a word, up to the first number at fault; how many they are. Where a number is at fault the words may
+// be any, and that is enough: building refuses and drops them.
+// Requires: the position values of the order, an alphabet up to 4,096, and a word for each number, all of which building has checked or made.
 fn fill(
     positions: &[u32; 47],
     order: usize,
@@ -35,7 +36,7 @@ fn fill(
 
 // Builds the index of a row of numbers up to `alphabet`; the result is how many bits the bitmaps have. It is built apart, as a refusal must leave the output as it was.
 pub fn build(order: usize, alphabet: u32, row: &[u32], out: &mut [u8]) -> CountAnswer
-    ensures { λ r. ⌜ (countOutcome r ≡ build order alphabet (now (row .entry)) (length (now (out .entry)))) × (now (out .exit) ≡ buildInto order alphabet (now (row .entry)) (now (out .entry))) ⌝ }
+    ensures { λ r. ⌜ BuildPromise order alphabet (now (row .entry)) (now (out .entry)) (now (out .exit)) (countOutcome r) ⌝ }
 {
     let checked = wavelet::check(order, alphabet, row.len());
     if let CountAnswer::Refused(r) = checked {

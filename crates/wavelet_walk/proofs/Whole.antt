@@ -16,15 +16,15 @@ use Rattle.calls.specs.declared.Refusal.the-variants.{NotAnIndex}
 use Rattle.calls.specs.Limits.{isNumber}
 use Rattle.calls.proofs.Checks.{number-is}
 use Rattle.wavelet.specs.Nodes.{isPrefix, prune, tree, visits}
-use Rattle.wavelet.specs.Bitmaps.{rowOfBitmaps, isIndex, rowOfIndex}
+use Rattle.wavelet.specs.Bitmaps.{rowOfBitmaps, exact, isIndex, rowOfIndex}
 use Rattle.wavelet.specs.Questions.{uses, rankIn}
-use Rattle.wavelet.specs.Answers.{Passed}
-use Rattle.wavelet.specs.Leaves.{Aligned, Root, Exact}
+use Rattle.wavelet.specs.Leaves.{Passed, Aligned, Root}
 use Rattle.wavelet.specs.declared.Cursor.{Cursor}
 use Rattle.wavelet.specs.declared.QuestionAnswer.the-variants.{Answered, Refused}
 use Rattle.wavelet.proofs.Trees.{row-length}
 use Rattle.wavelet.proofs.Sides.{node-need}
-use Rattle.wavelet.proofs.Answering.{at-root, index-is, index-end, ask-not, ask-next}
+use Rattle.wavelet.proofs.Visits.{visits-tree}
+use Rattle.wavelet.proofs.Answering.{legal-order, legal-alphabet, at-root, index-is, index-end, ask-not, ask-next}
 use Rattle.wavelet_walk.specs.Leaves.{Askable, Arrived, Finds, Tells, Walks}
 use Rattle.wavelet_walk.specs.declared.Question.{Question}
 use Rattle.wavelet_walk.specs.declared.Question.the-variants.{Extract, Rank, Select}
@@ -40,10 +40,10 @@ clip i k l e =
     ]
 
 -- what the row answers, from what the walk has found in it
-module _ (m N k : ℕ) (s : List ℕ) (x : ℕ) (r : Walked) (long : length (rowOfIndex m N k s) ≡ k) where
+module _ {m N k : ℕ} (p : Passed m N k) (s : List ℕ) (x : ℕ) (r : Walked) (long : length (rowOfIndex m N k s) ≡ k) where
   visited : (question : Question) (j c : ℕ) (a : Arrived m N [] (tree m N) (unpack s) k question x j 0 r) → a .number ≡ c → r .visits ≡ visits m N c
-  unfolding visits
-  visited question j c a e = a .visited ∙ zero-add _ ∙ ap (visits m N) e
+  visited question j c a e =
+      a .visited ∙ zero-add _ ∙ sym (visits-tree m N (omega (arith, legal-order p)) (legal-alphabet p .0) (a .number)) ∙ ap (visits m N) e
 
   tells : (question : Question) (n i : ℕ) → Arrived m N [] (tree m N) (unpack s) k question x (min i k) 0 r → (isNumber N n ≡ true → Aligned m n x)
       → Askable question N k n i → Tells m N (rowOfIndex m N k s) question n i (r .result) (r .visits)
@@ -66,18 +66,18 @@ module _ (m N k : ℕ) (s : List ℕ) (x : ℕ) (r : Walked) (long : length (row
 
 -- what a walk from the root has found, by other names of the alphabet and the place
 module _ {m N k : ℕ} (p : Passed m N k) (s : List ℕ) (v : Cursor) (root : Root v) (question : Question) (x i : ℕ) (r : Walked)
-    {l j : ℕ} (limit : l ≡ N) (same : j ≡ min i k) (found : Finds m l v k s 0 question x j r) (whole : Bool) (exact : Exact s (r .end) whole) (n : ℕ) where
+    {l j : ℕ} (limit : l ≡ N) (same : j ≡ min i k) (found : Finds m l v k s 0 question x j r) (n : ℕ) where
   finds : Finds m N v k s 0 question x (min i k) r
   finds = rw (limit, same) at found
 
   -- whether the bytes are an index
-  index : isIndex m N k s ≡ whole
-  index = index-is p s root (r .end) (finds .0) whole exact
+  index : isIndex m N k s ≡ exact (r .end) s
+  index = index-is p s root (r .end) (finds .0)
 
-  pub walk-not : whole ≡ false → Walks m N k s question n i (Refused NotAnIndex)
+  pub walk-not : exact (r .end) s ≡ false → Walks m N k s question n i (Refused NotAnIndex)
   walk-not e next = ask-not p s next (index ∙ e)
 
-  module _ (e : whole ≡ true) where
+  module _ (e : exact (r .end) s ≡ true) where
     inside : r .end ≤ 8 * length s
     inside = index-end p s root (r .end) (finds .0) (index ∙ e)
 
@@ -97,5 +97,5 @@ module _ {m N k : ℕ} (p : Passed m N k) (s : List ℕ) (v : Cursor) (root : Ro
     walk-whole aligned = (
       λ next. sym (ask-next p s next (index ∙ e)),
       whole-length,
-      λ legal. tells m N k s x r whole-length question n i arrived aligned legal,
+      λ legal. tells p s x r whole-length question n i arrived aligned legal,
     )

@@ -8,10 +8,10 @@ use Rattle.bits.specs.Bits.{bitOf, unpack, count, selectBit}
 use Rattle.calls.specs.Calls.{Outcome, refused}
 use Rattle.calls.specs.Limits.{isNumber}
 use Rattle.fibonacci.specs.Code.{codeword}
-use Rattle.wavelet.specs.Nodes.{isPrefix, Tree, prune, visitsIn, visits}
+use Rattle.wavelet.specs.Nodes.{isPrefix, Tree, prune, visits}
 use Rattle.wavelet.specs.Bitmaps.{rowOfBitmaps, rowOfIndex}
 use Rattle.wavelet.specs.Questions.{uses, rankIn, ask}
-use Rattle.wavelet.specs.Leaves.{CursorAt, Ends, Aligned}
+use Rattle.wavelet.specs.Leaves.{CursorAt, Ends, visitsIn, Aligned}
 use Rattle.wavelet.specs.declared.Cursor.{Cursor}
 use Rattle.wavelet.specs.declared.QuestionAnswer.{QuestionAnswer}
 use Rattle.wavelet.specs.declared.QuestionAnswer.the-variants.{Answered, Refused}
@@ -87,7 +87,7 @@ pub record Arrived (m N : ℕ) (q : List Bool) (t : Tree) (b : List Bool) (k : �
   pub at-place : question ≡ Extract → i < k → number ≡ getD (rowOfBitmaps t k b) i 0
   pub at-codeword : (n : ℕ) → Goes question m N q x n → number ≡ n
 
--- So below a spot, where the bitmaps do not run past the bytes
+-- So below a string of the tree, where the bitmaps do not run past the bytes
 abbrev pub Finds : ℕ → ℕ → Cursor → ℕ → List ℕ → ℕ → Question → ℕ → ℕ → Walked → Type 0
 Finds m N v k s at question x i r = Ends m N v k s at (r .end)
     × (r .end ≤ 8 * length s → (f : ℕ) (q : List Bool) → CursorAt m N f q v → Arrived m N q (prune m N f q) (drop at (unpack s)) k question x i (v .depth) r)

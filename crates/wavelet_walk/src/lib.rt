@@ -27,7 +27,7 @@ struct Walked {
     visits: usize,
 }
 
-// The bitmaps run past the bytes, and nothing is found.
+// The bitmaps run past the bytes, and nothing is found: the bytes are no index, so nobody reads what else it holds.
 fn lost(end: usize) -> Walked
     ensures { λ r. ⌜ r .end ≡ end ⌝ }
 {
@@ -50,6 +50,7 @@ fn at_leaf(question: Question, n: usize, k: usize, i: usize) -> usize
 }
 
 // Whether a walk goes on with a 1 from a node whose bitmap starts at bit `at`; x is the codeword that it goes by.
+// Requires: fewer than 32 bits before the node's next, the place in view in the bytes, and at most 8,192 of them, which `descend` shows.
 fn takes_one(question: Question, x: u32, b: &[u8], at: usize, i: usize, depth: usize) -> bool
     requires { ⌜ (depth < 32) × InView question (at + i) (8 * length (now b)) × (length (now b) ≤ maxIndexBytes) ⌝ }
     ensures { λ r. ⌜ r ≡ turn question x (now (b .entry)) at i depth ⌝ }
@@ -61,6 +62,7 @@ fn takes_one(question: Question, x: u32, b: &[u8], at: usize, i: usize, depth: u
 }
 
 // How many numbers are on a side of a node that has k, of which `ones` are on the 1 side.
+// Requires: no more ones than numbers, which their count shows.
 fn count_on(one: bool, k: usize, ones: usize) -> usize
     requires { ⌜ ones ≤ k ⌝ }
     ensures { λ r. ⌜ r ≡ side one (k - ones) ones ⌝ }
@@ -69,6 +71,7 @@ fn count_on(one: bool, k: usize, ones: usize) -> usize
 }
 
 // What is in view on a side of a node: a place becomes how many of the numbers before it are on that side, and a use stays the same one.
+// Requires: the place in view in the bytes, and at most 8,192 of them, which `descend` shows.
 fn onward(question: Question, b: &[u8], at: usize, i: usize, one: bool) -> usize
     requires { ⌜ InView question (at + i) (8 * length (now b)) × (length (now b) ≤ maxIndexBytes) ⌝ }
     ensures { λ r. ⌜ r ≡ onward question one (drop at (unpack (now (b .entry)))) i ⌝ }
@@ -80,6 +83,7 @@ fn onward(question: Question, b: &[u8], at: usize, i: usize, one: bool) -> usize
 }
 
 // The place of the bit v that has j others of its kind before it in the bitmap of k bits that starts at bit `at`; k where there is none.
+// Requires: what `back` requires.
 fn select_in(b: &[u8], at: usize, k: usize, v: bool, j: usize) -> usize
     requires { ⌜ (at + k ≤ 8 * length (now b)) × (length (now b) ≤ maxIndexBytes) ⌝ }
     ensures { λ r. ⌜ r ≡ selectBit v j (take k (drop at (unpack (now (b .entry))))) ⌝ }
@@ -90,6 +94,7 @@ fn select_in(b: &[u8], at: usize, k: usize, v: bool, j: usize) -> usize
 }
 
 // What was found on a side of a node, on the way back: a place there becomes the place here.
+// Requires: the node's bitmap in the bytes, and at most 8,192 of them, which `descend` shows.
 fn back(question: Question, b: &[u8], at: usize, k: usize, one: bool, result: usize) -> usize
     requires { ⌜ (at + k ≤ 8 * length (now b)) × (length (now b) ≤ maxIndexBytes) ⌝ }
     ensures { λ r. ⌜ r ≡ back question one (take k (drop at (unpack (now (b .entry))))) result ⌝ }
@@ -101,6 +106,8 @@ fn back(question: Question, b: &[u8], at: usize, k: usize, one: bool, result: us
 }
 
 // Walks the bitmaps of k numbers below a string, from bit `at` on, with place or use i of those numbers in view.
+// Requires: a legal order and alphabet, at most 8,192 bytes and a place in the row, which `walk` checks; and a string of the tree, which is the root or a
+// side of a node.
 fn descend(
     positions: &[u32; 47],
     order: usize,
@@ -162,7 +169,8 @@ fn descend(
 }
 
 // Walks the whole index for a question about place or use i, and about the number n if it asks for one: the checks that the questions share, and what they
-// go on with. Where n is no number of the alphabet, the walk still shows whether the bytes are an index.
+// go on with. Where n is no number of the alphabet or i no place of the row, its result may be any, and that is enough: the walk still shows whether the
+// bytes are an index, and then the question refuses n or i.
 pub fn walk(
     order: usize,
     alphabet: u32,

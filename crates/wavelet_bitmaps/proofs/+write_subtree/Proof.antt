@@ -1,5 +1,5 @@
 use mathlib.Core.Path.{_≡_, refl, sym, ap, _∙_}
-use mathlib.Core.Bool.{true, false}
+use mathlib.Core.Bool.{true, false, not}
 use mathlib.Core.List.{List, _++_}
 use Prim.Native.Nat.{ℕ, suc, _+_, _-_, _*_, _≤_, _<_}
 use native.Mathlib.Omega.{arith}
@@ -9,12 +9,13 @@ use borrow.Author.Tests.{not-true, not-false}
 use borrow.Rule.Slice.PartMut.{same-len-mid}
 use borrow.Fn.Kinds.{In}
 use borrow.Fn.PlainCycle.{Measures, is, falls, and}
+use Rattle.lists.specs.Lists.{filter}
 use Rattle.lists.proofs.Lists.{tail-part}
 use Rattle.wavelet.specs.Leaves.{nodeTest}
-use Rattle.wavelet.proofs.Walking.{is-node, side-legal, less}
-use Rattle.wavelet_bitmaps.specs.Leaves.{room}
+use Rattle.wavelet.proofs.Walking.{is-node, is-low, less}
+use Rattle.wavelet_bitmaps.specs.Leaves.{bitAfter, room}
 use Rattle.wavelet_bitmaps.proofs.Subtrees.{node-depth, room-split, room-sides, side-depth, subtree-none, subtree-leaf}
-use Rattle.wavelet_bitmaps.proofs.Subtrees.{parted-few, parted-zeros, parted-ones, subtree-node}
+use Rattle.wavelet_bitmaps.proofs.Subtrees.{words-cursor, partitioned-few, partitioned-zeros, partitioned-ones, words-zero, words-one, subtree-node}
 use Rattle.wavelet_bitmaps.proofs.write_subtree.Reads as write-subtree
 use Rattle.wavelet_bitmaps.proofs.write_subtree.Kinds as write-subtree-kinds
 use Rattle.wavelet_bitmaps.proofs.+write_subtree.Lts-write_subtree as write-subtree-lts
@@ -45,12 +46,12 @@ known t = (
   write-subtree.Post,
 )
 
--- where the walk through the code stands: at a node, with the words parted, with the 0 side spread, and with both
+-- where the walk through the code stands: at a node, with the words partitioned, with the 0 side written, and with both
 abbrev Node : ℕ → Type 0
 Node t = write-subtree-lts.Else2 (known t) (write-subtree-at t) write-subtree.Post
 
-abbrev Parted : ℕ → Type 0
-Parted t = write-subtree-lts.After-partition (known t) (write-subtree-at t) write-subtree.Post
+abbrev Partitioned : ℕ → Type 0
+Partitioned t = write-subtree-lts.After-partition (known t) (write-subtree-at t) write-subtree.Post
 
 abbrev Zero : ℕ → Type 0
 Zero t = write-subtree-lts.After-write-subtree (known t) (write-subtree-at t) write-subtree.Post
@@ -61,10 +62,10 @@ Both t = write-subtree-lts.After-write-subtree2 (known t) (write-subtree-at t) w
 abbrev start-of : (t : ℕ) → Node t → write-subtree-lts.Start (known t) (write-subtree-at t) write-subtree.Post
 start-of t c = c .before .before .before .before .before .before
 
-abbrev node-of : (t : ℕ) → Parted t → Node t
+abbrev node-of : (t : ℕ) → Partitioned t → Node t
 node-of t c = c .before .before .before .before
 
-abbrev part-of : (t : ℕ) → Zero t → Parted t
+abbrev part-of : (t : ℕ) → Zero t → Partitioned t
 part-of t c = c .before .before .before .before .before .before .before .before .before .before .before
 
 abbrev zero-of : (t : ℕ) → Both t → Zero t
@@ -82,7 +83,7 @@ shallow : (t : ℕ) (c : Node t) → start-of t c .args .v .depth < 16
 shallow t c =
     let z = start-of t c in
     let p = z .pre .1 in
-    node-depth (z .args .order) (z .args .v .depth) (z .args .v .next) (p .0 .0) (p .2) (omega (arith, p .1, within t c .1))
+    node-depth (z .args .order) (z .args .v .depth) (z .args .v .next) (p .0 .0) (is-low _ _ (z .args .v) (words-cursor _ _ (z .args .v) _ (p .2))) (omega (arith, p .1, within t c .1))
 
 -- its bitmap fits
 fits : (t : ℕ) (c : Node t) → let a = start-of t c .args in a .at + length (a .words .now) ≤ 8 * length (a .out .now)
@@ -91,14 +92,14 @@ fits t c =
     let n = length (z .args .words .now) in
     omega (arith, z .pre .1 .4, room-split (z .args .v .depth) n n 0 (shallow t c) (omega arith))
 
--- ## With the words parted
+-- ## With the words partitioned
 
-few : (t : ℕ) (c : Parted t) → c .partition .result ≤ length (c .partition .last .0)
+few : (t : ℕ) (c : Partitioned t) → c .partition .result ≤ length (c .partition .last .0)
 few t c =
     let a = start-of t (node-of t c) .args in
-    omega (arith, c .partition .kept .0, parted-few (a .v .depth) (a .words .now) (c .partition .result) (c .partition .ensures .0))
+    omega (arith, c .partition .kept .0, partitioned-few (a .v .depth) (a .words .now) (c .partition .result) (c .partition .ensures .0))
 
-sides : (t : ℕ) (c : Parted t) {uz uo : ℕ}
+sides : (t : ℕ) (c : Partitioned t) {uz uo : ℕ}
     → let a = start-of t (node-of t c) .args in
     uz ≡ a .v .depth + 1 → uo ≡ a .v .depth + 1
     → room (a .v .depth) (length (a .words .now))
@@ -107,10 +108,25 @@ sides t c zero-is one-is =
     let a = start-of t (node-of t c) .args in
     room-sides (a .v .depth) (length (a .words .now)) (c .partition .result) (c .partition .last .0) (shallow t (node-of t c)) (c .partition .kept .0) zero-is one-is
 
--- ## With the 0 side spread: its words may have changed, the others have not
+-- the words on each side
+zeros : (t : ℕ) (c : Partitioned t)
+    → let a = start-of t (node-of t c) .args in
+    take (c .partition .result) (c .partition .last .0) ≡ filter (λ x. not (bitAfter (a .v .depth) x)) (a .words .now)
+zeros t c =
+    let a = start-of t (node-of t c) .args in
+    ap (take (c .partition .result)) (c .partition .ensures .1) ∙ partitioned-zeros (a .v .depth) (a .words .now) (c .partition .result) (c .partition .ensures .0)
+
+ones-of : (t : ℕ) (c : Partitioned t)
+    → let a = start-of t (node-of t c) .args in
+    drop (c .partition .result) (c .partition .last .0) ≡ filter (bitAfter (a .v .depth)) (a .words .now)
+ones-of t c =
+    let a = start-of t (node-of t c) .args in
+    ap (drop (c .partition .result)) (c .partition .ensures .1) ∙ partitioned-ones (a .v .depth) (a .words .now) (c .partition .result) (c .partition .ensures .0)
+
+-- ## With the 0 side written: its words may have changed, the others have not
 
 zero-depth : (t : ℕ) (c : Zero t) → c .before .before .before .before .side .result .depth ≡ start-of t (node-of t (part-of t c)) .args .v .depth + 1
-zero-depth t c = side-depth _ (start-of t (node-of t (part-of t c)) .args .v) _ false (c .before .before .before .before .side .ensures .0)
+zero-depth t c = side-depth _ (start-of t (node-of t (part-of t c)) .args .v) _ false (c .before .before .before .before .side .ensures)
 
 kept-zeros : (t : ℕ) (c : Zero t) → length (c .write-subtree .last .1 .1 .1 .1 .0) ≡ part-of t c .partition .result
 kept-zeros t c =
@@ -157,7 +173,7 @@ write-subtree-side-requires : (t : ℕ) → write-subtree-lts.Need-side-requires
 write-subtree-side-requires t c κs =
     let n = node-of t (c .before .before .before .before .before .before) in
     let p = start-of t n .pre .1 in
-    side-legal _ _ (start-of t n .args .v) _ (p .0) (p .1) (p .2) (test-of t n)
+    (p .0, (start-of t n .args .limit, p .1, words-cursor _ _ (start-of t n .args .v) _ (p .2), test-of t n))
 
 write-subtree-slice-relend-prefix-write-subtree : (t : ℕ) → write-subtree-lts.Need-slice-relend-prefix-write-subtree (known t) (write-subtree-at t) write-subtree.Post
 write-subtree-slice-relend-prefix-write-subtree t c = few t (c .before .before .before .before .before .before .before)
@@ -180,12 +196,12 @@ write-subtree-write-subtree-requires t c κs =
     let p = z .pre .1 in
     let a = z .args in
     let u = c .before .before .before .side in
-    let deeper = side-depth (a .order) (a .v) (u .result) false (u .ensures .0) in (
-      less (a .order) (a .limit) (a .v) false t (z .pre .0) (u .ensures .0) (omega (arith, p .0 .0)) (within t n),
+    let deeper = side-depth (a .order) (a .v) (u .result) false (u .ensures) in (
+      less (a .order) (a .limit) (a .v) false t (z .pre .0) (u .ensures) (omega (arith, p .0 .0)) (within t n),
       (
         p .0,
         p .1,
-        u .ensures .1,
+        words-zero (a .order) (a .limit) (a .v) (a .words .now) (test-of t n) (shallow t n) (p .2) (u .ensures) (zeros t y),
         omega (arith, p .3, length-take (y .partition .result) (y .partition .last .0), y .partition .kept .0, y .partition .kept .1 .0),
         omega (arith, p .4, y .partition .kept .1 .1 .1 .0, sides t y deeper refl),
         omega (arith, p .5, y .partition .kept .1 .1 .1 .0),
@@ -196,7 +212,7 @@ write-subtree-side-requires-2 : (t : ℕ) → write-subtree-lts.Need-side-requir
 write-subtree-side-requires-2 t c κs =
     let n = node-of t (part-of t (c .before .before .before .before .before .before)) in
     let p = start-of t n .pre .1 in
-    side-legal _ _ (start-of t n .args .v) _ (p .0) (p .1) (p .2) (test-of t n)
+    (p .0, (start-of t n .args .limit, p .1, words-cursor _ _ (start-of t n .args .v) _ (p .2), test-of t n))
 
 write-subtree-mul-write-subtree : (t : ℕ) → write-subtree-lts.Need-mul-write-subtree (known t) (write-subtree-at t) write-subtree.Post
 write-subtree-mul-write-subtree t c =
@@ -221,14 +237,14 @@ write-subtree-write-subtree-requires-2 t c κs =
     let p = z .pre .1 in
     let a = z .args in
     let u = c .before .before .before .side2 in
-    let deeper = side-depth (a .order) (a .v) (u .result) true (u .ensures .0) in
+    let deeper = side-depth (a .order) (a .v) (u .result) true (u .ensures) in
     let ones = ap length (kept-ones t x) ∙ length-drop (y .partition .result) (y .partition .last .0) in
     let out = x .write-subtree .kept .1 .1 .1 .1 .1 .1 .0 ∙ y .partition .kept .1 .1 .1 .0 in (
-      less (a .order) (a .limit) (a .v) true t (z .pre .0) (u .ensures .0) (omega (arith, p .0 .0)) (within t n),
+      less (a .order) (a .limit) (a .v) true t (z .pre .0) (u .ensures) (omega (arith, p .0 .0)) (within t n),
       (
         p .0,
         p .1,
-        u .ensures .1,
+        words-one (a .order) (a .limit) (a .v) (a .words .now) (test-of t n) (shallow t n) (p .2) (u .ensures) (kept-ones t x ∙ ones-of t y),
         omega (arith, p .3, ones, y .partition .kept .0, y .partition .kept .1 .0, x .write-subtree .kept .1 .1 .1 .1 .1 .0),
         rw (kept-ones t x) (omega (arith, p .4, x .write-subtree .ensures .0, sides t y (zero-depth t x) deeper, out)),
         omega (arith, p .5, out),
@@ -263,15 +279,12 @@ write-subtree-returns-3 t c =
     let y = part-of t x in
     let n = node-of t y in
     let a = start-of t n .args in
-    let z = y .partition .result in
     let u0 = x .before .before .before .before .side in
     let u1 = w .before .before .before .before .side2 in
-    let zeros = ap (take z) (y .partition .ensures .1) ∙ parted-zeros (a .v .depth) (a .words .now) z (y .partition .ensures .0) in
-    let ones = ap (drop z) (y .partition .ensures .1) ∙ parted-ones (a .v .depth) (a .words .now) z (y .partition .ensures .0) in
-    let room = sides t y (zero-depth t x) (side-depth (a .order) (a .v) (u1 .result) true (u1 .ensures .0)) in (
+    let room = sides t y (zero-depth t x) (side-depth (a .order) (a .v) (u1 .result) true (u1 .ensures)) in (
       omega (arith, x .write-subtree .ensures .0, rw (kept-ones t x) at (w .write-subtree2 .ensures .0)),
       subtree-node (a .order) (a .limit) (a .v) (a .words .now) (test-of t n) (shallow t n) (a .at) _ _ _ _ _ _ _ _ _ _
-          (u0 .ensures .0) (u1 .ensures .0) zeros (kept-ones t x ∙ ones) (y .partition .ensures .2) (x .write-subtree .ensures .1) (w .write-subtree2 .ensures .1),
+          (u0 .ensures) (u1 .ensures) (zeros t y) (kept-ones t x ∙ ones-of t y) (y .partition .ensures .2) (x .write-subtree .ensures .1) (w .write-subtree2 .ensures .1),
     )
 
 pub +write-subtree-spec : {M : Type 1} → statement M

@@ -5,13 +5,13 @@ use lib.ListN.{length, drop, length-set, length-take, length-drop}
 use borrow.Rule.Slice.PartMut.{same-len-mid}
 use Rattle.bits.specs.Bits.{unpack}
 use Rattle.wavelet_bitmaps.specs.Leaves.{bitAfter}
-use Rattle.wavelet_bitmaps.proofs.Partitioning.{Parting, bit-few, parting-none, parting-next, parted-count, parted-words, parted-bits}
+use Rattle.wavelet_bitmaps.proofs.Partitioning.{Partition, bit-few, partition-none, partition-next, partitioned-count, partitioned-words, partitioned-bits}
 use Rattle.wavelet_bitmaps.proofs.partition.Statement.{statement}
 use Rattle.wavelet_bitmaps.proofs.partition.Tie as tie
 
 abbrev Inv-loop : tie.InvT-loop
 Inv-loop words₀ spare₀ depth out₀ at ones₀ i₀ i-end words spare out ones i =
-    Parting (bitAfter depth) words₀ words spare (i - ones) ones i at (unpack out₀) (unpack out)
+    Partition (bitAfter depth) words₀ words spare (i - ones) ones i at (unpack out₀) (unpack out)
     × (i-end ≡ length words₀) × (length spare ≡ length spare₀) × (length out ≡ length out₀)
 
 abbrev μ-loop : tie.MeasureT-loop
@@ -20,7 +20,7 @@ abbrev μ-loop : tie.MeasureT-loop
 loop-holds : tie.Need-loop-holds Inv-loop μ-loop
 loop-holds c =
     let s = c .before .before .before in
-    (parting-none _ _ _ _ _ (s .pre .1), refl, refl, refl)
+    (partition-none _ _ _ _ _ (s .pre .1), refl, refl, refl)
 
 mul-x : tie.Need-mul-x Inv-loop μ-loop
 mul-x c = omega arith
@@ -71,7 +71,7 @@ loop-again c =
     let set = c .before .before .set-bit in
     let a = c .before .before .before .before .before .before .before .before .before .before .before .args in
     let here : l .i < length (a .words .now) = omega arith in
-    (rw (set .ensures) (parting-next (l .inv .0) here (bit .result) (sym (bit .ensures)) _ (omega (arith, bit-few (bit .result)))), refl, simp length-set (l .inv .2), set .kept .0 ∙ l .inv .3)
+    (rw (set .ensures) (partition-next (l .inv .0) here (bit .result) (sym (bit .ensures)) _ (omega (arith, bit-few (bit .result)))), refl, simp length-set (l .inv .2), set .kept .0 ∙ l .inv .3)
 
 sub-zeros : tie.Need-sub-zeros Inv-loop μ-loop
 sub-zeros c = omega arith
@@ -112,7 +112,7 @@ returns c =
     let l = c .before .before .before .before .before .before .loop in
     let all : l .i - l .ones ≡ length (l .words) - l .ones = omega arith in
     let p = rw all at (l .inv .0) in
-    (parted-count p (omega arith), parted-words p (omega arith) _ (c .before .before .copy .ensures), parted-bits p (omega arith))
+    (partitioned-count p (omega arith), partitioned-words p (omega arith) _ (c .before .before .copy .ensures), partitioned-bits p (omega arith))
 
 pub partition-spec : {M : Type 1} → statement M
 partition-spec =

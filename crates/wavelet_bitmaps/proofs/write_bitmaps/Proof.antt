@@ -1,8 +1,8 @@
 use native.Mathlib.Omega.{arith}
 use lib.ListN.{length}
 use borrow.Author.Needs.{needs}
-use Rattle.wavelet.proofs.Answering.{legal-alphabet, low-root}
-use Rattle.wavelet_bitmaps.proofs.Subtrees.{root-room, root-written}
+use Rattle.wavelet.proofs.Answering.{legal-alphabet}
+use Rattle.wavelet_bitmaps.proofs.Subtrees.{root-room, root-words, root-written}
 use Rattle.wavelet_bitmaps.proofs.write_bitmaps.Statement.{statement}
 use Rattle.wavelet_bitmaps.proofs.write_bitmaps.Tie as tie
 
@@ -23,7 +23,7 @@ write-subtree-requires c κs =
     let w = r .before .wide in (
       z .pre .0,
       omega (arith, w .ensures, legal-alphabet p .1),
-      low-root p (r .root .ensures),
+      root-words p (r .root .ensures) (z .args .words .now) (z .pre .3) (w .ensures),
       p .count,
       omega (arith, p .count, z .pre .2, root-room (r .root .result) (length (z .args .words .now)) (r .root .ensures)),
       omega (arith, z .pre .2),

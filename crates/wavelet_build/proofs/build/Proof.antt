@@ -1,6 +1,6 @@
 use mathlib.Core.Path.{_≡_, sym, ap, _∙_}
 use native.Mathlib.Omega.{arith}
-use lib.ListN.{length, replicate, length-take}
+use lib.ListN.{length, take, replicate, length-take}
 use lib.Seq.{sets, length-take-le}
 use borrow.Author.Needs.{needs}
 use Rattle.bits.specs.Bits.{unpack}
@@ -8,10 +8,11 @@ use Rattle.calls.proofs.Checks.{positive, each-accepted}
 use Rattle.calls.specs.declared.Refusal.the-variants.{OutsideAlphabet}
 use Rattle.calls.specs.Calls.{accepted, countOutcome}
 use Rattle.calls.specs.Limits.{Legal}
+use Rattle.fibonacci.specs.Encoding.{Positive}
 use Rattle.wavelet.specs.Bitmaps.{bitmaps}
-use Rattle.wavelet.specs.Answers.{Passed}
-use Rattle.wavelet.specs.Leaves.{maxIndexBytes}
+use Rattle.wavelet.specs.Leaves.{Passed, maxIndexBytes}
 use Rattle.wavelet.proofs.Answering.{tree-passed, legal-order, legal-alphabet}
+use Rattle.wavelet_bitmaps.specs.Leaves.{AllAligned}
 use Rattle.wavelet_build.proofs.Building.{build-refused, build-number, build-room, build-done}
 use Rattle.wavelet_build.proofs.build.Statement.{statement}
 use Rattle.wavelet_build.proofs.build.Tie as tie
@@ -40,6 +41,14 @@ numbers c =
     each-accepted OutsideAlphabet (a .alphabet) 0 (a .row .now) (accepted (length (a .row .now))) _ (
     sym (fill-at c .fill .ensures .0) ∙ ap countOutcome (c .enum-told2 .given .1)) .0
 
+-- so the words have their codewords
+aligned : (c : tie.After-enum-told2)
+    → let a = start-of (tree-at c) .args in
+    Positive (a .row .now) × AllAligned (a .order) (a .row .now) (take (length (a .row .now)) (fill-at c .fill .last .1 .1 .1 .1 .0))
+aligned c =
+    let a = start-of (tree-at c) .args in
+    (positive (a .alphabet) (a .row .now) (numbers c), fill-at c .fill .ensures .1 _ (ap countOutcome (c .enum-told2 .given .1)))
+
 -- the bitmaps are written
 built : (c : tie.After-write-bitmaps)
     → let a = start-of (tree-at (numbers-at c)) .args in
@@ -48,8 +57,7 @@ built : (c : tie.After-write-bitmaps)
 built c =
     let e = numbers-at c in
     let a = start-of (tree-at e) .args in
-    c .write-bitmaps .ensures .1 (a .row .now) (positive (a .alphabet) (a .row .now) (numbers e))
-    (fill-at e .fill .ensures .1 _ (ap countOutcome (e .enum-told2 .given .1)))
+    c .write-bitmaps .ensures .1 (a .row .now) (aligned e .0) (aligned e .1)
 
 check-requires : tie.Need-check-requires
 check-requires c κs = search needs
@@ -109,7 +117,7 @@ write-bitmaps-requires c κs =
     let e = c .before .before .before in
     let p = passed (tree-at e) in
     let k = length (start-of (tree-at e) .args .row .now) in
-    (fill-at e .before .before .before .positions .ensures, record { order = p .order; alphabet = p .alphabet; count = omega (arith, p .count, length-take k (fill-at e .fill .last .1 .1 .1 .1 .0)) }, omega arith)
+    (fill-at e .before .before .before .positions .ensures, record { order = p .order; alphabet = p .alphabet; count = omega (arith, p .count, length-take k (fill-at e .fill .last .1 .1 .1 .1 .0)) }, omega arith, (start-of (tree-at e) .args .row .now, aligned e .0, aligned e .1))
 
 add-count : tie.Need-add-count
 add-count c = omega (arith, c .before .before .write-bitmaps .ensures .0)

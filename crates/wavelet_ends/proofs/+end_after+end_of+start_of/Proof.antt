@@ -7,7 +7,7 @@ use borrow.Author.Tests.{not-true, not-false}
 use borrow.Fn.Kinds.{In}
 use borrow.Fn.PlainCycle.{Measures, is, falls, and}
 use Rattle.wavelet.specs.Leaves.{nodeTest, sideOf}
-use Rattle.wavelet.proofs.Walking.{is-node, side-legal, less, end-none, end-leaf, end-short, end-cut, end-on, starts-zero, starts-one, closes-one, closes-zero}
+use Rattle.wavelet.proofs.Walking.{is-node, side-cursor, less, end-none, end-leaf, end-short, end-cut, end-on, starts-zero, starts-one, closes-one, closes-zero}
 use Rattle.wavelet_ends.proofs.end_after.Reads as end-after
 use Rattle.wavelet_ends.proofs.end_after.Kinds as end-after-kinds
 use Rattle.wavelet_ends.proofs.+end_after+end_of+start_of.Lts-end_after as end-after-lts
@@ -86,21 +86,21 @@ end-after-side-requires : (t : ℕ) → end-after-lts.Need-side-requires (end-af
 end-after-side-requires t c κs =
     let z = c .before .before .before in
     let p = z .pre .1 in
-    side-legal _ _ (z .args .v) _ (p .0 .0) (p .0 .1) (p .0 .2) (p .1)
+    (p .0 .0, (z .args .limit, p .0 .1, p .0 .2, p .1))
 
 end-after-end-of-requires : (t : ℕ) → end-after-lts.Need-end-of-requires (end-after-known t) (end-after-at t) end-after.Post
 end-after-end-of-requires t c κs =
     let z = c .before .before .before .before in
     let a = z .args in
     let p = z .pre .1 in
-    let l = less (a .order) (a .limit) (a .v) true _ refl (c .side .ensures .0) (omega (arith, p .0 .0 .0)) (is-node _ _ (a .v) (p .1)) in
-    (omega (arith, l, z .pre .0), (p .0 .0, p .0 .1, c .side .ensures .1, p .0 .3, p .0 .4))
+    let l = less (a .order) (a .limit) (a .v) true _ refl (c .side .ensures) (omega (arith, p .0 .0 .0)) (is-node _ _ (a .v) (p .1)) in
+    (omega (arith, l, z .pre .0), (p .0 .0, p .0 .1, side-cursor _ _ (a .v) true (p .0 .2) (p .1) (c .side .ensures), p .0 .3, p .0 .4))
 
 end-after-returns-3 : (t : ℕ) → end-after-lts.Need-returns-3 (end-after-known t) (end-after-at t) end-after.Post
 end-after-returns-3 t c =
     let y = c .before .before .before in
     let a = y .before .before .args in
-    closes-zero _ _ (a .v) (a .ones) _ (a .at) (a .one) _ _ (y .if1 .left) (c .before .side .ensures .0) (c .end-of .ensures)
+    closes-zero _ _ (a .v) (a .ones) _ (a .at) (a .one) _ _ (y .if1 .left) (c .before .side .ensures) (c .end-of .ensures)
 
 -- ## Where bitmaps end
 
@@ -192,7 +192,7 @@ start-of-side-requires : (t : ℕ) → start-of-lts.Need-side-requires (start-of
 start-of-side-requires t c κs =
     let z = c .before .before .before in
     let p = z .pre .1 in
-    side-legal _ _ (z .args .v) _ (p .0 .0) (p .0 .1) (p .0 .2) (p .1)
+    (p .0 .0, (z .args .limit, p .0 .1, p .0 .2, p .1))
 
 start-of-sub-end-of : (t : ℕ) → start-of-lts.Need-sub-end-of (start-of-known t) (start-of-at t) start-of.Post
 start-of-sub-end-of t c = omega (arith, c .before .before .before .before .pre .1 .3)
@@ -202,14 +202,14 @@ start-of-end-of-requires t c κs =
     let z = c .before .before .before .before in
     let a = z .args in
     let p = z .pre .1 in
-    let l = less (a .order) (a .limit) (a .v) false _ refl (c .side .ensures .0) (omega (arith, p .0 .0 .0)) (is-node _ _ (a .v) (p .1)) in
-    (omega (arith, l, z .pre .0), (p .0 .0, p .0 .1, c .side .ensures .1, p .0 .3, p .2))
+    let l = less (a .order) (a .limit) (a .v) false _ refl (c .side .ensures) (omega (arith, p .0 .0 .0)) (is-node _ _ (a .v) (p .1)) in
+    (omega (arith, l, z .pre .0), (p .0 .0, p .0 .1, side-cursor _ _ (a .v) false (p .0 .2) (p .1) (c .side .ensures), p .0 .3, p .2))
 
 start-of-returns-3 : (t : ℕ) → start-of-lts.Need-returns-3 (start-of-known t) (start-of-at t) start-of.Post
 start-of-returns-3 t c =
     let y = c .before .before .before in
     let a = y .before .before .args in
-    starts-one _ _ (a .v) (a .ones) _ (a .at) (a .one) (a .k) _ _ (not-false _ (y .if1 .left)) (c .before .side .ensures .0) (c .end-of .ensures)
+    starts-one _ _ (a .v) (a .ones) _ (a .at) (a .one) (a .k) _ _ (not-false _ (y .if1 .left)) (c .before .side .ensures) (c .end-of .ensures)
 
 pub +end-after+end-of+start-of-spec : {M : Type 1} → statement M
 +end-after+end-of+start-of-spec = close μ-end-after μ-end-of μ-start-of (λ t. end-after-lts.spec (end-after-known t)

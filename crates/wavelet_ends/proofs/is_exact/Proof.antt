@@ -13,7 +13,7 @@ add-if2 : tie.Need-add-if2
 add-if2 c = search needs
 
 returns-2 : tie.Need-returns-2
-returns-2 c = let a = c .before .before .before .args in exact-other (a .b .now) (a .end) (c .before .if1 .left) (c .if2 .taken)
+returns-2 c = let a = c .before .before .before .args in exact-other (a .b .now) (a .end) (c .if2 .taken)
 
 ones-in-requires : tie.Need-ones-in-requires
 ones-in-requires c κs = search needs

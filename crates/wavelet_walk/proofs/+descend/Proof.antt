@@ -12,7 +12,7 @@ use Rattle.fibonacci.specs.Code.{first}
 use Rattle.wavelet.specs.Questions.{maxAlphabet}
 use Rattle.wavelet.specs.Leaves.{nodeTest}
 use Rattle.wavelet.proofs.Cursors.{shallow}
-use Rattle.wavelet.proofs.Walking.{is-node, side-legal, less}
+use Rattle.wavelet.proofs.Walking.{is-node, is-low, side-cursor, less}
 use Rattle.wavelet_walk.proofs.Questions.{view-within, view-side}
 use Rattle.wavelet_walk.proofs.Descending.{find-leaf, find-short, find-cut, find-past, find-done}
 use Rattle.wavelet_walk.proofs.descend.Reads as descend
@@ -102,7 +102,7 @@ deep : (t : ℕ) (c : Node t) → start t c .args .v .depth < 32
 deep t c =
     let z = start t c in
     let p = z .pre .1 .0 in
-    let l : first (z .args .order) (z .args .v .depth + 1) ≤ maxAlphabet = omega (arith, p .2, small t c .1, p .1) in
+    let l : first (z .args .order) (z .args .v .depth + 1) ≤ maxAlphabet = omega (arith, is-low _ _ (z .args .v) (p .2), small t c .1, p .1) in
     omega (arith, shallow _ _ (p .0 .0) l)
 
 fits : (t : ℕ) (c : Bitmap t) → let a = start t (c .before) .args in a .at + a .k ≤ 8 * length (a .b .now)
@@ -171,7 +171,7 @@ descend-side-requires t c κs =
     let n = bitmap t (c .before) .before in
     let z = start t n in
     let p = z .pre .1 .0 in
-    side-legal _ _ (z .args .v) _ (p .0) (p .1) (p .2) (node-is t n)
+    (p .0, (z .args .limit, p .1, p .2, node-is t n))
 
 descend-count-on-requires : (t : ℕ) → lts.Need-count-on-requires (known t) (descend-at t) descend.Post
 descend-count-on-requires t c κs = c .before .before .before .before .ones-in .ensures .1
@@ -191,9 +191,9 @@ descend-descend-requires t c κs =
     let p = z .pre .1 in
     let u = c .before .before .side in
     let l : a .at + a .k ≤ length (unpack (a .b .now)) = omega (arith, fits t m, unpack-length (a .b .now)) in (
-      less (a .order) _ (a .v) (y .before .takes-one .result) _ (z .pre .0) (u .ensures .0) (omega (arith, p .0 .0 .0)) (small t (m .before)),
+      less (a .order) _ (a .v) (y .before .takes-one .result) _ (z .pre .0) (u .ensures) (omega (arith, p .0 .0 .0)) (small t (m .before)),
       (
-        (p .0 .0, p .0 .1, u .ensures .1, p .0 .3, omega (arith, c .before .before .before .if3 .left)),
+        (p .0 .0, p .0 .1, side-cursor _ _ (a .v) (y .before .takes-one .result) (p .0 .2) (node-is t (m .before)) (u .ensures), p .0 .3, omega (arith, c .before .before .before .if3 .left)),
         rw (c .onward .ensures, c .before .count-on .ensures) (view-side (a .question) (a .k) (unpack (a .b .now)) (a .at) _ l (y .before .before .ones-in .ensures .0) (a .i) (p .1) (y .before .takes-one .result)),
       ),
     )
@@ -207,7 +207,7 @@ descend-returns-4 t c =
     let z = start t (m .before) in
     let p = z .pre .1 in
     find-past _ _ (z .args .v) _ _ _ (z .args .question) (z .args .x) (z .args .i) (p .0 .4) (p .1) (node-is t (m .before)) (fits t m) _ (y .before .before .ones-in .ensures .0)
-    (y .before .takes-one .result) _ (y .start-of .ensures) (x .before .before .before .if3 .left) _ (x .before .before .side .ensures .0)
+    (y .before .takes-one .result) _ (y .start-of .ensures) (x .before .before .before .if3 .left) _ (x .before .before .side .ensures)
     _ (x .before .count-on .ensures) _ (x .onward .ensures) _ (d .descend .ensures) (c .if4 .taken)
 
 descend-end-after-requires : (t : ℕ) → lts.Need-end-after-requires (known t) (descend-at t) descend.Post
@@ -231,7 +231,7 @@ descend-returns-5 t c =
     let z = start t (m .before) in
     let p = z .pre .1 in
     find-done _ _ (z .args .v) _ _ _ (z .args .question) (z .args .x) (z .args .i) (p .0 .4) (p .1) (node-is t (m .before)) (fits t m) _ (y .before .before .ones-in .ensures .0)
-    (y .before .takes-one .result) _ (y .start-of .ensures) (x .before .before .before .if3 .left) _ (x .before .before .side .ensures .0)
+    (y .before .takes-one .result) _ (y .start-of .ensures) (x .before .before .before .if3 .left) _ (x .before .before .side .ensures)
     _ (x .before .count-on .ensures) _ (x .onward .ensures) _ (d .descend .ensures)
     (deep t (m .before)) (sym (y .before .takes-one .ensures)) (e .if4 .left) _ (c .before .end-after .ensures) _ (c .back .ensures)
 

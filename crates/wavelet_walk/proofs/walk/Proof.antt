@@ -3,8 +3,8 @@ use native.Mathlib.Omega.{arith}
 use borrow.Author.Needs.{needs}
 use borrow.Author.Tests.{not-true, not-false}
 use Rattle.calls.specs.Calls.{countOutcome}
-use Rattle.wavelet.specs.Answers.{Passed}
-use Rattle.wavelet.proofs.Answering.{tree-passed, tree-refused, legal-order, legal-alphabet, low-root, index-long, ask-not, target-aligned}
+use Rattle.wavelet.specs.Leaves.{Passed}
+use Rattle.wavelet.proofs.Answering.{tree-passed, tree-refused, legal-order, legal-alphabet, is-root, index-long, ask-not, target-aligned}
 use Rattle.wavelet_walk.proofs.Questions.{view-all}
 use Rattle.wavelet_walk.proofs.Whole.{walk-not, walk-whole}
 use Rattle.wavelet_walk.proofs.walk.Statement.{statement}
@@ -64,7 +64,7 @@ descend-requires c κs =
     let w = r .before .before .before .before in
     let f = few-at r in
     let p = passed (f .before) in (
-      (w .before .positions .ensures, omega (arith, legal-alphabet p .1, w .wide .ensures), low-root p (r .root .ensures), f .if1 .left, omega arith),
+      (w .before .positions .ensures, omega (arith, legal-alphabet p .1, w .wide .ensures), is-root p (r .root .ensures) (w .wide .ensures), f .if1 .left, omega arith),
       view-all (start-of (f .before) .args .question) _ _ (omega (arith, c .before .least .ensures)),
     )
 
@@ -80,7 +80,7 @@ returns-3 c =
     let f = few-at r in
     let a = start-of (f .before) .args in
     walk-not (passed (f .before)) (a .b .now) (r .root .result) (r .root .ensures) (a .question) _ (a .i) (d .descend .result) (w .wide .ensures)
-    (d .before .before .least .ensures) (d .descend .ensures) _ (x .is-exact .ensures) (a .n) (not-true _ (c .if2 .taken))
+    (d .before .before .least .ensures) (d .descend .ensures) (a .n) (sym (x .is-exact .ensures) ∙ not-true _ (c .if2 .taken))
 
 returns-4 : tie.Need-returns-4
 returns-4 c =
@@ -91,7 +91,7 @@ returns-4 c =
     let f = few-at r in
     let a = start-of (f .before) .args in
     walk-whole (passed (f .before)) (a .b .now) (r .root .result) (r .root .ensures) (a .question) _ (a .i) (d .descend .result) (w .wide .ensures)
-    (d .before .before .least .ensures) (d .descend .ensures) _ (x .is-exact .ensures) (a .n) (not-false _ (c .if2 .left))
+    (d .before .before .least .ensures) (d .descend .ensures) (a .n) (sym (x .is-exact .ensures) ∙ not-false _ (c .if2 .left))
     (target-aligned _ _ (w .wide .ensures) (r .before .before .wide2 .ensures) (r .before .target-codeword .ensures))
 
 pub walk-spec : {M : Type 1} → statement M
