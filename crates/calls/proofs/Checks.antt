@@ -1,6 +1,6 @@
 -- The checks that calls make: what it says that one is passed, that a chain of them accepts, and that each number of a row passes.
 use mathlib.Core.Path.{_≡_, refl, sym, _∙_}
-use mathlib.Core.Bool.{Bool, true, false, _&&_, _||_, true≢false, false≢true}
+use mathlib.Core.Bool.{Bool, true, false, not, _&&_, _||_, true≢false, false≢true}
 use mathlib.Core.List.{List, [], _∷_}
 use Prim.Native.Nat.{ℕ, zero, suc, _+_, _≤_, _<_}
 use native.Mathlib.Omega.{arith}
@@ -66,6 +66,13 @@ number-outside limit n e = go (isOutside limit n) refl
     go : (v : Bool) → isOutside limit n ≡ v → v ≡ true
     go true d = refl
     go false d = absurd (false≢true (sym e ∙ inside-number limit n d))
+
+pub outside-is : (limit n : ℕ) → not (isNumber limit n) ≡ isOutside limit n
+outside-is limit n = go (isNumber limit n) refl
+  where
+    go : (v : Bool) → isNumber limit n ≡ v → not v ≡ isOutside limit n
+    go true e = sym (number-inside limit n e)
+    go false e = sym (number-outside limit n e)
 
 -- the numbers of a row are from 1 up
 pub positive : (limit : ℕ) (row : List ℕ) → Legal limit row → All (λ n. 1 ≤ n) row

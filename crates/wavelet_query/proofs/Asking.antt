@@ -14,7 +14,8 @@ use Rattle.bits.proofs.Select as bit
 use Rattle.calls.specs.declared.Refusal.{Refusal}
 use Rattle.calls.specs.declared.Refusal.the-variants.{BadPlace, BadUse, OutsideAlphabet, TooFewUses}
 use Rattle.calls.specs.Calls.{Outcome, accepted, refused}
-use Rattle.calls.specs.Limits.{isNumber}
+use Rattle.calls.specs.Limits.{isNumber, isOutside}
+use Rattle.calls.proofs.Checks.{inside-number}
 use Rattle.wavelet.specs.Bitmaps.{rowOfIndex}
 use Rattle.wavelet.specs.Questions.{uses, rankIn, selectIn, ask, extract, rank, select}
 use Rattle.wavelet.specs.declared.QuestionAnswer.{QuestionAnswer}
@@ -56,17 +57,17 @@ module _ (m N k : ℕ) (s : List ℕ) where
     rank-refused r go = go _
 
     module _ (r v : ℕ) (w : Walks m N k s Rank n i (Answered r v)) where
-      pub rank-number : isNumber N n ≡ false → refused (OutsideAlphabet 0) ≡ rank m N k s n i
+      pub rank-number : isOutside N n ≡ true → refused (OutsideAlphabet 0) ≡ rank m N k s n i
       unfolding rank
       rank-number e = sym (simp e) ∙ w .0 _
 
-      pub rank-place : isNumber N n ≡ true → k < i → refused BadPlace ≡ rank m N k s n i
+      pub rank-place : isOutside N n ≡ false → k < i → refused BadPlace ≡ rank m N k s n i
       unfolding rank
       rank-place e h = sym (simp (e, lt-ltb k i h)) ∙ w .0 _
 
-      pub rank-found : isNumber N n ≡ true → i ≤ k → accepted (r, v) ≡ rank m N k s n i
+      pub rank-found : isOutside N n ≡ false → i ≤ k → accepted (r, v) ≡ rank m N k s n i
       unfolding rank
-      rank-found e h = ap₂ (λ (x y : ℕ). accepted (x, y)) (w .2 (e, h) .0) (w .2 (e, h) .1) ∙ sym (simp (e, le-ltb k i h)) ∙ w .0 _
+      rank-found e h = ap₂ (λ (x y : ℕ). accepted (x, y)) (w .2 (inside-number N n e, h) .0) (w .2 (inside-number N n e, h) .1) ∙ sym (simp (e, le-ltb k i h)) ∙ w .0 _
 
   -- ## Select
 
@@ -80,11 +81,14 @@ module _ (m N k : ℕ) (s : List ℕ) where
       w : Walks m N k s Select n (j - 1) (Answered r v)
       w = rw same at walks
 
-      pub select-number : isNumber N n ≡ false → refused (OutsideAlphabet 0) ≡ select m N k s n j
+      pub select-number : isOutside N n ≡ true → refused (OutsideAlphabet 0) ≡ select m N k s n j
       unfolding select
       select-number e = sym (simp e) ∙ w .0 _
 
-      module _ (e : isNumber N n ≡ true) where
+      module _ (e : isOutside N n ≡ false) where
+        legal : isNumber N n ≡ true
+        legal = inside-number N n e
+
         pub select-none : j ≡ 0 → refused BadUse ≡ select m N k s n j
         unfolding select
         select-none z = sym (simp (e, eq-eqb j 0 z)) ∙ w .0 _
@@ -101,7 +105,7 @@ module _ (m N k : ℕ) (s : List ℕ) where
           few : k ≤ r → rankIn (rowOfIndex m N k s) n k < j
           few h =
               elim (decLe j (count true (uses n (rowOfIndex m N k s)))) [
-                | yes l ↦ absurd (omega (arith, w .2 e .0, uses-length, bit.select-found true (j - 1) (uses n (rowOfIndex m N k s)) (omega arith)))
+                | yes l ↦ absurd (omega (arith, w .2 legal .0, uses-length, bit.select-found true (j - 1) (uses n (rowOfIndex m N k s)) (omega arith)))
                 | no l ↦ omega (arith, all-uses)
               ]
 
@@ -109,7 +113,7 @@ module _ (m N k : ℕ) (s : List ℕ) where
           enough h =
               elim (decLe j (count true (uses n (rowOfIndex m N k s)))) [
                 | yes l ↦ omega (arith, all-uses)
-                | no l ↦ absurd (omega (arith, w .2 e .0, uses-length, bit.select-none true (j - 1) (uses n (rowOfIndex m N k s)) (omega arith)))
+                | no l ↦ absurd (omega (arith, w .2 legal .0, uses-length, bit.select-none true (j - 1) (uses n (rowOfIndex m N k s)) (omega arith)))
               ]
 
           positive : eqb j 0 ≡ false
@@ -121,4 +125,4 @@ module _ (m N k : ℕ) (s : List ℕ) where
 
           pub select-found : r < k → accepted (r, v) ≡ select m N k s n j
           unfolding select selectIn
-          select-found h = ap₂ (λ (x y : ℕ). accepted (x, y)) (w .2 e .0) (w .2 e .1) ∙ sym (simp (e, positive, le-ltb _ j (enough h))) ∙ w .0 _
+          select-found h = ap₂ (λ (x y : ℕ). accepted (x, y)) (w .2 legal .0) (w .2 legal .1) ∙ sym (simp (e, positive, le-ltb _ j (enough h))) ∙ w .0 _

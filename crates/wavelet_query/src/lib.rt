@@ -1,8 +1,7 @@
 // The three questions asked of an index, by one walk each.
 ghost use mathlib.Core.Path.{_≡_};
-ghost use mathlib.Core.Bool.{not};
 ghost use Prim.Native.Nat.{_-_};
-ghost use Rattle.calls.specs.Limits.{isNumber};
+ghost use Rattle.calls.specs.Limits.{isOutside};
 ghost use Rattle.wavelet.specs.Questions.{extract, rank, select};
 ghost use Rattle.wavelet.specs.Answers.{questionOutcome};
 use calls::Refusal;
@@ -11,7 +10,7 @@ use wavelet_walk::Question;
 
 // Whether n is no number of the alphabet.
 fn is_outside(alphabet: u32, n: u32) -> bool
-    ensures { λ r. ⌜ r ≡ not (isNumber alphabet n) ⌝ }
+    ensures { λ r. ⌜ r ≡ isOutside alphabet n ⌝ }
 {
     let limit = calls::wide(alphabet);
     let number = calls::wide(n);

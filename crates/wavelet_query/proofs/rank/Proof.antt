@@ -1,5 +1,4 @@
 use mathlib.Core.Path.{sym, _∙_}
-use borrow.Author.Tests.{not-true, not-false}
 use borrow.Author.Needs.{needs}
 use Rattle.wavelet.specs.declared.QuestionAnswer.the-variants.{Answered}
 use Rattle.wavelet_walk.specs.Leaves.{Walks}
@@ -38,14 +37,14 @@ returns : tie.Need-returns
 returns c =
     let k = c .before .before in
     let a = start-of (k .before .before .before) .args in
-    rank-number (a .order) (a .alphabet) (a .len) (a .b .now) (a .n) (a .i) _ _ (whole k) (not-true _ (sym (c .before .is-outside .ensures) ∙ c .if1 .taken))
+    rank-number (a .order) (a .alphabet) (a .len) (a .b .now) (a .n) (a .i) _ _ (whole k) (sym (c .before .is-outside .ensures) ∙ c .if1 .taken)
 
 returns-2 : tie.Need-returns-2
 returns-2 c =
     let e = c .before in
     let k = e .before .before in
     let a = start-of (k .before .before .before) .args in
-    rank-place (a .order) (a .alphabet) (a .len) (a .b .now) (a .n) (a .i) _ _ (whole k) (not-false _ (sym (e .before .is-outside .ensures) ∙ e .if1 .left)) (c .if2 .taken)
+    rank-place (a .order) (a .alphabet) (a .len) (a .b .now) (a .n) (a .i) _ _ (whole k) (sym (e .before .is-outside .ensures) ∙ e .if1 .left) (c .if2 .taken)
 
 returns-3 : tie.Need-returns-3
 returns-3 c =
@@ -59,7 +58,7 @@ returns-4 c =
     let e = c .before in
     let k = e .before .before in
     let a = start-of (k .before .before .before) .args in
-    rank-found (a .order) (a .alphabet) (a .len) (a .b .now) (a .n) (a .i) _ _ (whole k) (not-false _ (sym (e .before .is-outside .ensures) ∙ e .if1 .left)) (c .if2 .left)
+    rank-found (a .order) (a .alphabet) (a .len) (a .b .now) (a .n) (a .i) _ _ (whole k) (sym (e .before .is-outside .ensures) ∙ e .if1 .left) (c .if2 .left)
 
 pub rank-spec : {M : Type 1} → statement M
 rank-spec =

@@ -1,5 +1,4 @@
 use mathlib.Core.Path.{sym, _∙_}
-use borrow.Author.Tests.{not-true, not-false}
 use native.Mathlib.Omega.{arith}
 use borrow.Author.Needs.{needs}
 use Rattle.wavelet.specs.declared.QuestionAnswer.the-variants.{Answered}
@@ -44,7 +43,7 @@ returns c =
     let w = k .before .before .before in
     let a = start-of w .args in
     select-number (a .order) (a .alphabet) (a .len) (a .b .now) (a .n) (a .j) _ (w .before .skipped .ensures) _ _ (whole k)
-    (not-true _ (sym (c .before .is-outside .ensures) ∙ c .if1 .taken))
+    (sym (c .before .is-outside .ensures) ∙ c .if1 .taken)
 
 returns-2 : tie.Need-returns-2
 returns-2 c =
@@ -53,7 +52,7 @@ returns-2 c =
     let w = k .before .before .before in
     let a = start-of w .args in
     select-none (a .order) (a .alphabet) (a .len) (a .b .now) (a .n) (a .j) _ (w .before .skipped .ensures) _ _ (whole k)
-    (not-false _ (sym (e .before .is-outside .ensures) ∙ e .if1 .left)) (omega (arith, c .if2 .taken))
+    (sym (e .before .is-outside .ensures) ∙ e .if1 .left) (omega (arith, c .if2 .taken))
 
 returns-3 : tie.Need-returns-3
 returns-3 c =
@@ -62,7 +61,7 @@ returns-3 c =
     let w = k .before .before .before in
     let a = start-of w .args in
     select-fewer (a .order) (a .alphabet) (a .len) (a .b .now) (a .n) (a .j) _ (w .before .skipped .ensures) _ _ (whole k)
-    (not-false _ (sym (e .before .is-outside .ensures) ∙ e .if1 .left)) (omega (arith, c .before .if2 .left)) (c .if3 .taken)
+    (sym (e .before .is-outside .ensures) ∙ e .if1 .left) (omega (arith, c .before .if2 .left)) (c .if3 .taken)
 
 returns-4 : tie.Need-returns-4
 returns-4 c =
@@ -78,7 +77,7 @@ returns-5 c =
     let w = k .before .before .before in
     let a = start-of w .args in
     select-found (a .order) (a .alphabet) (a .len) (a .b .now) (a .n) (a .j) _ (w .before .skipped .ensures) _ _ (whole k)
-    (not-false _ (sym (e .before .is-outside .ensures) ∙ e .if1 .left)) (omega (arith, c .before .if2 .left)) (c .if3 .left)
+    (sym (e .before .is-outside .ensures) ∙ e .if1 .left) (omega (arith, c .before .if2 .left)) (c .if3 .left)
 
 pub select-spec : {M : Type 1} → statement M
 select-spec =
