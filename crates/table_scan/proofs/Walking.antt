@@ -13,21 +13,20 @@ use Rattle.lists.proofs.Each.{all-append}
 use Rattle.bits.specs.Bits.{wordBits, unpack}
 use Rattle.bits.proofs.Bytes.{unpack-length}
 use Rattle.fibonacci.specs.Code.{ones, first, number}
-use Rattle.fibonacci.specs.Encoding.{Positive, Parse, parsed, rest, IsParse, parse, numbers}
+use Rattle.fibonacci.specs.Encoding.{Positive, Parse, parsed, rest, parse, numbers}
 use Rattle.calls.specs.declared.Refusal.the-variants.{TooManyCodewords, BadRest}
 use Rattle.calls.specs.Calls.{accepted, refused}
 use Rattle.calls.specs.Limits.{isNumber, Legal, maxNumber, maxCount}
 use Rattle.calls.specs.Reading.{contents}
-use Rattle.calls.proofs.Checks.{number-is}
-use Rattle.fibonacci.proofs.Parse.{parse-is}
+use Rattle.calls.proofs.Checks.{number-is, above-number}
 use Rattle.byte_table.specs.declared.Row.{Row}
 use Rattle.byte_table.specs.Leaves.{withoutTrailing, trailingOnes, after, front, inside, byF, byF1, byF2, moved, rowOfParse, rowAt, Small}
 use Rattle.reading.specs.Reading.{fibonacci}
 use Rattle.reading.proofs.Reached.{Reached, reached-start, reached-open, reached-shut, reached-numbers, reached-end}
-use Rattle.reading.proofs.Checking.{Padding, padding-is, padding-not, contents-many, contents-past, contents-rest, contents-good, Numbered, numbered-legal, numbered-large}
+use Rattle.reading.proofs.Checking.{Padding, padding-is, padding-not, contents-many, contents-past, contents-rest, contents-good, number-positive, coded-positive, Numbered, numbered-legal, numbered-large}
 use Rattle.table_scan.specs.Leaves.{Passes, faultAt}
 use Rattle.table_scan.proofs.Refusing.{none, refused-in}
-use Rattle.table_scan.proofs.Inside.{few-are, first-three, taken, coded-positive, open-parse, shut-parse}
+use Rattle.table_scan.proofs.Inside.{few-are, first-three, taken, open-parse, shut-parse}
 use Rattle.table_scan.proofs.Stepping.{without-settled, without-trailing, trailing-few, front-ones, row-after, bits-next, Pending, pending-none, pending-left, pending-more, pending-clamped, pending-near, pending-far}
 
 -- ## What the loop keeps
@@ -156,9 +155,6 @@ module _ {limit : ℕ} {s : List ℕ} {i : ℕ} {row : List ℕ} {count len val 
       parse-cut : parse 3 (ones (k .run) ++ x) ≡ parsed (cut .0 ∷ cut .1) (rest p)
       parse-cut = sym p-is ∙ cut .2
 
-      is-cut : IsParse 3 (ones (k .run) ++ x) (parsed (cut .0 ∷ cut .1) (rest p))
-      is-cut = subst (IsParse 3 (ones (k .run) ++ x)) parse-cut (parse-is 3 (ones (k .run) ++ x) (omega arith))
-
       reached-next : Reached 3 (unpack s) (8 * (i + 1)) (k .words ++ (ended ∷ cut .1)) (withoutTrailing (rest p)) (trailingOnes (rest p))
       reached-next =
           reached-shut (k .reached) x (8 * (i + 1)) (unfold x in bits-next s i (step .more)) (withoutTrailing (rest p)) (trailingOnes (rest p)) (without-settled (rest p)) (trailing-few _ (rest p) _ parse-cut)
@@ -193,7 +189,10 @@ module _ {limit : ℕ} {s : List ℕ} {i : ℕ} {row : List ℕ} {count len val 
       third-is = ap (λ (r : Row). r .third) row-cut
 
       within-pos : Positive within
-      within-pos = coded-positive (cut .1) (is-cut .coded .1)
+      within-pos = coded-positive 3 (cut .1)
+
+      ended-pos : 1 ≤ number 3 ended
+      ended-pos = number-positive 3 ended
 
       next-numbers : map (number 3) (k .words ++ (ended ∷ cut .1)) ≡ done ++ (number 3 ended ∷ within)
       next-numbers = map-append (number 3) (k .words) (ended ∷ cut .1)
@@ -215,20 +214,20 @@ module _ {limit : ℕ} {s : List ℕ} {i : ℕ} {row : List ℕ} {count len val 
           where
             by : (t : Bool) → isNumber limit n ≡ t → isNumber limit n ≡ isNumber limit (number 3 ended)
             by true e = ap (isNumber limit) (numbered-legal 3 _ _ n is (number 3 ended) ended-near ended-far limit top e)
-            by false e = e ∙ sym (numbered-large 3 _ _ n is (number 3 ended) ended-near ended-far limit top e)
+            by false e = e ∙ sym (above-number limit (number 3 ended) ended-pos (numbered-large 3 _ _ n is (number 3 ended) ended-near ended-far limit top e))
 
         passes-within : Passes (isNumber limit (number 3 ended)) limit (getD within 0 0) (getD within 1 0) good
         passes-within = rw (← alike, ← second-is, ← third-is) passes
 
         pub walked-fault : good < 3 → contents (fibonacci 3) limit s ≡ refused (faultAt (count + good))
         walked-fault l =
-            refused-in limit s done (k .legal) (number 3 ended) within (all-numbers .0) (all-numbers .1) within-few within-pos good passes-within l
+            refused-in limit s done (k .legal) (number 3 ended) ended-pos within (all-numbers .0) (all-numbers .1) within-few within-pos good passes-within l
             ∙ ap (λ (c : ℕ). refused (faultAt (c + good))) done-long
 
         -- all pass
         module _ (all : 3 ≤ good) where
           legal : Legal limit (number 3 ended ∷ within)
-          legal = none limit (number 3 ended) within within-few within-pos good passes-within all
+          legal = none limit (number 3 ended) ended-pos within within-few within-pos good passes-within all
 
           n-is : n ≡ number 3 ended
           n-is = numbered-legal 3 _ _ n is (number 3 ended) ended-near ended-far limit top (alike ∙ legal .0)
