@@ -73,7 +73,9 @@ fn next_number(
     Step::Number(n, next.bit)
 }
 
-// The numbers that words store.
+// The numbers that words store; none of few bytes. That they are the first of the row is enough to know: the loop behind goes on from any bit, and so stores all
+// of the row. Requires: the first numbers of an order in use, an encoding that is not too long, and a limit of at most 4,294,967,295, which `store_row` checks or
+// requires.
 fn store_words(
     firsts: &[u32; 47],
     order: usize,
@@ -90,7 +92,7 @@ fn store_words(
     word_decoder::take_row(firsts, order, s, limit, row)
 }
 
-// The numbers that words sum.
+// The numbers that words sum; none of few bytes, for which holds the same. Requires: the same, which `sum_span` checks or requires.
 fn sum_words(
     firsts: &[u32; 47],
     order: usize,

@@ -8,7 +8,7 @@ ghost use Rattle.fibonacci.specs.Code.{value, first};
 ghost use Rattle.calls.specs.Limits.{Order, maxNumber};
 ghost use Rattle.fibonacci.specs.Tables.{Firsts};
 ghost use Rattle.digit_tables.specs.Leaves.{byteValues};
-ghost use Rattle.word_windows.specs.Leaves.{ExactIfLegal, runStarts, WindowAt};
+ghost use Rattle.word_windows.specs.Leaves.{ExactIfLegal, MarksRuns, LoadedWindow};
 
 // The next bits of an encoding, the first on top, and where in them as many ones as the order begin.
 pub struct Window {
@@ -19,7 +19,7 @@ pub struct Window {
 // Where `order` ones in a row begin in a word: a one at each such place. Ones that begin here and again no further on than they reach are one longer run.
 fn run_starts(w: u64, order: usize) -> u64
     requires { ⌜ Order order ⌝ }
-    ensures { λ r. ⌜ (wordBits 64 r ≡ runStarts order (wordBits 64 w)) × (r < 2 ^ 64) ⌝ }
+    ensures { λ r. ⌜ MarksRuns order w r ⌝ }
 {
     let two = w & w << 1;
     if order == 2 {
@@ -32,10 +32,11 @@ fn run_starts(w: u64, order: usize) -> u64
     four & four << (order & 3)
 }
 
-// The window from a bit on; an empty one where fewer than eight bytes are left there. The decoder has checked the order, and stays within the bytes.
+// The window from a bit on; an empty one where fewer than eight bytes are left from the byte of that bit on. Requires: an order in use, and a bit within the
+// bytes or at their end, which the word decoder shows.
 pub fn window_at(s: &[u8], order: usize, bit: usize) -> Window
     requires { ⌜ Order order × (bit ≤ 8 * length (now s)) ⌝ }
-    ensures { λ r. ⌜ WindowAt (unpack (now (s .entry))) bit (r .left) × (wordBits 64 (r .starts) ≡ runStarts order (wordBits 64 (r .left))) × (r .starts < 2 ^ 64) ⌝ }
+    ensures { λ r. ⌜ LoadedWindow order (unpack (now (s .entry))) bit r ⌝ }
 {
     let q = bit >> 3;
     if s.len() < q + 8 {
