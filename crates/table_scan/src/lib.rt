@@ -79,8 +79,8 @@ pub fn walk(
     for i in 0..s.len() {
         let r = byte_table::look_up(heads, tails, state + s[i] as usize);
         let end = len + r.len;
-        let sum = val + byte_table::moved(positions, len, r.x, r.y, r.z);
-        state = r.next;
+        let sum = val + byte_table::moved(positions, len, r.coef0, r.coef1, r.coef2);
+        state = 256 * r.rest.ones;
         if r.count == 0 {
             len = clamp_length(end);
             val = sum;
@@ -98,8 +98,8 @@ pub fn walk(
             if count > calls::MAX_COUNT {
                 return CountAnswer::Refused(Refusal::TooManyCodewords);
             }
-            len = r.left;
-            val = r.val;
+            len = r.rest.len;
+            val = r.rest.value;
         }
     }
     if !reading::is_padding(len, val, state) {
