@@ -20,8 +20,8 @@ pub struct Rest {
 pub struct Row {
     // How many codewords end in the byte.
     pub count: usize,
-    // The bits that finish the pending codeword, or make it longer where none ends: how many, and what F(k), F(k - 1) and F(k - 2) are multiplied with for their
-    // value after k others. These are the sums of F(j), of F(j - 1) + F(j - 2), and of F(j - 1) over the ones among them.
+    // The bits that finish the pending codeword, or make it longer where none ends: how many, and what F(k), F(k - 1) and F(k - 2) are multiplied with for
+    // their value after k others. These are the sums of F(j), of F(j - 1) + F(j - 2), and of F(j - 1) over the ones among them.
     pub len: usize,
     pub coef0: u64,
     pub coef1: u64,
@@ -83,8 +83,8 @@ fn times(f: u32, v: u64) -> u64
     calls::wide(f) * v
 }
 
-// What a row's bits are worth after `len` others, over whole numbers: three products. Requires: the table of position values, a length of 37 or less, and a row's
-// values, which the table scan shows.
+// What a row's bits are worth after `len` others, over whole numbers: three products. Requires: the table of position values, a length of 37 or less, and a
+// row's values, which the table scan shows.
 pub fn moved(positions: &[u32; 40], len: usize, coef0: u64, coef1: u64, coef2: u64) -> u64
     requires { ⌜ Movable (now positions) len coef0 coef1 coef2 ⌝ }
     ensures { λ r. ⌜ (r ≡ moved len coef0 coef1 coef2) × (r < 2 ^ 43) ⌝ }

@@ -22,6 +22,7 @@ use Rattle.calls.proofs.Finished.{finished-all, finished-many, finished-large, 
 use Rattle.fibonacci.proofs.Numeration.{F-pos}
 use Rattle.fibonacci.proofs.Numbers.{first-pos}
 use Rattle.reading.specs.Reading.{isBadRest, fibonacci}
+use Rattle.reading.specs.Leaves.{Numbered, isPadding}
 
 -- ## Pending bits at the end
 
@@ -43,10 +44,6 @@ unfolding count
 count-ones zero = refl
 count-ones (suc k) = omega (arith, count-ones k)
 
--- what is pending at the end, by its length, its value and its ones
-abbrev pub Padding : ℕ → ℕ → ℕ → Bool
-Padding len val run = ltb len 8 && (eqb val 0 && eqb run 0)
-
 -- Of the pending bits before those ones, `body`, only a length below 8 and the value then need be known
 module _ (m : ℕ) (body : List Bool) (len val run : ℕ) (pos : 1 ≤ m) (short : len < 8 → (length body ≡ len) × (val ≡ value m 1 body)) (far : 8 ≤ len → 8 ≤ length body) where
   abbrev pending : List Bool
@@ -58,7 +55,7 @@ module _ (m : ℕ) (body : List Bool) (len val run : ℕ) (pos : 1 ≤ m) (short
   pending-ones : count true pending ≡ count true body + run
   pending-ones = omega (arith, count-append true body (ones run), count-ones run)
 
-  pub padding-is : Padding len val run ≡ true → (length pending < 8) × (count true pending ≡ 0) × (run ≡ 0)
+  pub padding-is : isPadding len val run ≡ true → (length pending < 8) × (count true pending ≡ 0) × (run ≡ 0)
   padding-is e =
       let p = both (ltb len 8) (eqb val 0 && eqb run 0) e in
       let q = both (eqb val 0) (eqb run 0) (p .1) in
@@ -67,7 +64,7 @@ module _ (m : ℕ) (body : List Bool) (len val run : ℕ) (pos : 1 ≤ m) (short
       let v : value m 1 body ≡ 0 = omega (arith, eqb-true val 0 (q .0), s .1) in
       (omega (arith, pending-long, s .0, ltb-true len 8 (p .0)), omega (arith, pending-ones, value-none m 1 body v pos), r)
 
-  pub padding-not : Padding len val run ≡ false → (8 ≤ length pending) ⊎ (1 ≤ count true pending)
+  pub padding-not : isPadding len val run ≡ false → (8 ≤ length pending) ⊎ (1 ≤ count true pending)
   padding-not e =
       elim (decLe 8 len) [
         | yes l ↦ inl (omega (arith, pending-long, far l))
@@ -141,11 +138,7 @@ numbers-positive m b = coded-positive m (codewords (parse m b))
 
 -- ## A number by its length and its value
 
--- What is known of n, made from the `len` bits before the last ones of a codeword and their value, as far as a number of that length can be legal
-abbrev pub Numbered : ℕ → ℕ → ℕ → ℕ → Type 0
-Numbered m len val n = (first m len ≤ maxNumber → n ≡ first m len + val) × (maxNumber < first m len → n ≡ 0)
-
--- The codeword's own number x: n passes the check only where it is x, and fails only where x is above the limit
+-- n was found for the codeword's own number x: it passes the check only where it is x, and fails only where x is above the limit
 module _ (m len val n : ℕ) (is : Numbered m len val n) (x : ℕ) (near : first m len ≤ maxNumber → x ≡ first m len + val) (far : maxNumber < first m len → maxNumber < x)
     (limit : ℕ) (top : limit ≤ maxNumber) where
   pub numbered-legal : isNumber limit n ≡ true → n ≡ x

@@ -22,8 +22,9 @@ use Rattle.calls.proofs.Checks.{number-is, above-number}
 use Rattle.byte_table.specs.declared.Row.{Row}
 use Rattle.byte_table.specs.Leaves.{withoutTrailing, trailingOnes, parseByte, finishing, insideNumbers, value0, value1, value2, moved, rowOfParse, rowAt, Small}
 use Rattle.reading.specs.Reading.{fibonacci}
+use Rattle.reading.specs.Leaves.{Numbered, isPadding}
 use Rattle.reading.proofs.Reached.{Reached, reached-start, reached-open, reached-shut, reached-numbers, reached-end}
-use Rattle.reading.proofs.Checking.{Padding, padding-is, padding-not, contents-many, contents-past, contents-rest, contents-good, number-positive, coded-positive, Numbered, numbered-legal, numbered-large}
+use Rattle.reading.proofs.Checking.{padding-is, padding-not, contents-many, contents-past, contents-rest, contents-good, number-positive, coded-positive, numbered-legal, numbered-large}
 use Rattle.table_scan.specs.Leaves.{Passes, faultAt}
 use Rattle.table_scan.proofs.Refusing.{none, refused-in}
 use Rattle.table_scan.proofs.Inside.{few-are, first-three, taken, open-parse, shut-parse}
@@ -85,7 +86,7 @@ module _ {limit : ℕ} {s : List ℕ} {i : ℕ} {row : List ℕ} {count len val 
     pub byte : getD s i 0 < 256
     pub row-is : r ≡ rowAt (state + getD s i 0)
     pub few : Small r
-    pub bitValue : v ≡ moved len (r .coef0) (r .coef1) (r .coef2)
+    pub value-is : v ≡ moved len (r .coef0) (r .coef1) (r .coef2)
 
   module _ {r : Row} {v : ℕ} (step : Step r v) where
     x : List Bool
@@ -104,7 +105,7 @@ module _ {limit : ℕ} {s : List ℕ} {i : ℕ} {row : List ℕ} {count len val 
 
     -- the pending bits with the row's
     grown : (q : List Bool) → r .len ≡ length q → r .coef0 ≡ value0 q → r .coef1 ≡ value1 q + value2 q → r .coef2 ≡ value1 q → Pending (k .body ++ q) (len + r .len) (val + v)
-    grown q l a b c = rw (step .bitValue, l, a, b, c) (pending-more (k .body) len val q (k .pending))
+    grown q l a b c = rw (step .value-is, l, a, b, c) (pending-more (k .body) len val q (k .pending))
 
     -- no codeword ends
     pub walked-open : r .count ≡ 0 → (len' : ℕ) → (len + r .len < 37 → len' ≡ len + r .len) → (37 ≤ len + r .len → len' ≡ 37) → v < 2 ^ 43
@@ -289,15 +290,15 @@ module _ {limit : ℕ} {s : List ℕ} {i : ℕ} {row : List ℕ} {count len val 
     far l = elim (decLe 37 len) [ yes f ↦ omega (arith, k .pending .far f) | no f ↦ omega (arith, k .pending .near (omega arith) .0) ]
 
     -- there are no ones exactly where the state is 0
-    state-none : Padding len val state ≡ Padding len val (k .run)
+    state-none : isPadding len val state ≡ isPadding len val (k .run)
     state-none = ap (λ (t : Bool). ltb len 8 && (eqb val 0 && t)) (state-zero (k .run) (k .at))
 
-    pub walked-padding : Padding len val state ≡ true → (contents (fibonacci 3) limit s ≡ accepted done) × (take count row ≡ done) × (length done ≡ count)
+    pub walked-padding : isPadding len val state ≡ true → (contents (fibonacci 3) limit s ≡ accepted done) × (take count row ≡ done) × (length done ≡ count)
     walked-padding e =
         let t = padding-is 3 (k .body) len val (k .run) (omega arith) (λ l. k .pending .near (omega arith)) far (sym state-none ∙ e) in
         (contents-good limit 3 s done (k .legal) (k .words) _ rest-is refl (omega (arith, done-long, k .most)) (t .0) (t .1), k .stored, done-long)
 
-    pub walked-rest : Padding len val state ≡ false → contents (fibonacci 3) limit s ≡ refused BadRest
+    pub walked-rest : isPadding len val state ≡ false → contents (fibonacci 3) limit s ≡ refused BadRest
     walked-rest e =
         contents-rest limit 3 s done (k .legal) (k .words) _ rest-is refl (omega (arith, done-long, k .most))
         (padding-not 3 (k .body) len val (k .run) (omega arith) (λ l. k .pending .near (omega arith)) far (sym state-none ∙ e))

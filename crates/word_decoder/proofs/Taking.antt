@@ -20,7 +20,7 @@ use Rattle.fibonacci.proofs.Lookup as lookup
 use Rattle.fibonacci.proofs.Numbers.{first-pos, codeword-number, number-of}
 use Rattle.fibonacci.proofs.Rows.{bits-append}
 use Rattle.word_windows.specs.declared.Window.{Window}
-use Rattle.word_windows.specs.Leaves.{ExactIfLegal, MarksRuns, runStarts, WindowAt, LoadedWindow}
+use Rattle.word_windows.specs.Leaves.{bodyNumber, ExactIfLegal, MarksRuns, runStarts, WindowAt, LoadedWindow}
 use Rattle.word_windows.proofs.Loading.{drop-take}
 use Rattle.word_decoder.specs.Leaves.{Taken, Stopped, full, short, pending, large}
 use Rattle.word_windows.proofs.Starts.{up, words-up, zeros-default, starts-zeros, starts-runs, starts-up, mark-one, mark-none, first-within, first-ends, first-coded, first-zero}
@@ -88,7 +88,7 @@ module _ {b : List Bool} {k w : ℕ} (a : WindowAt b k w) where
     word-zero h =
         ap (λ (l : List Bool). getD l (body - 1) false) (a .bits) ∙ zeros-default windowBits (a .others) (body - 1) ∙ first-zero m pos windowBits body one none h
 
-    pub word-number : number m word ≡ first m body + value m 1 (take body (wordBits 64 w))
+    pub word-number : number m word ≡ bodyNumber m w body
     word-number =
         let p : take body windowBits ≡ take body (wordBits 64 w) = take-take body (a .some) (drop k b) (omega (arith, codeword-within)) ∙ sym (windowBits-take body (omega (arith, codeword-within))) in
         let l : length (take body windowBits) ≡ body = length-take-le body windowBits (omega (arith, codeword-within, windowBits-length)) in
@@ -176,10 +176,10 @@ module _ {m limit : ℕ} {b : List Bool} {k₀ : ℕ} {row : List ℕ} {bit coun
     going-within = omega (arith, codeword-within (g .window) m marks (omega arith) (g .marked .0) some (g .marked .1), g .window .within)
 
     -- the number is not legal
-    pub going-large : (most n : ℕ) → ExactIfLegal (first m len + value m 1 (take len (wordBits 64 left))) n → isNumber limit n ≡ false → limit ≤ maxNumber
+    pub going-large : (most n : ℕ) → ExactIfLegal (bodyNumber m left len) n → isNumber limit n ≡ false → limit ≤ maxNumber
         → Stopped m limit b bit count most
     going-large most n is bad top =
-        let x : ℕ = first m len + value m 1 (take len (wordBits 64 left)) in
+        let x : ℕ = bodyNumber m left len in
         let above : limit < x =
         elim (decLe x maxNumber) [
           | yes h ↦ omega (arith, is .0 h, illegal-above limit n (omega (arith, is .0 h, first-pos m len)) bad)
@@ -189,11 +189,11 @@ module _ {m limit : ℕ} {b : List Bool} {k₀ : ℕ} {row : List ℕ} {bit coun
         (omega (arith, word-number (g .window) m marks (omega arith) (g .marked .0) some (g .marked .1)))
 
     -- or it is
-    module _ (n : ℕ) (is : ExactIfLegal (first m len + value m 1 (take len (wordBits 64 left))) n) (legal : isNumber limit n ≡ true) (top : limit ≤ maxNumber) where
-      same : (n ≡ first m len + value m 1 (take len (wordBits 64 left))) × (first m len ≤ maxNumber)
+    module _ (n : ℕ) (is : ExactIfLegal (bodyNumber m left len) n) (legal : isNumber limit n ≡ true) (top : limit ≤ maxNumber) where
+      same : (n ≡ bodyNumber m left len) × (first m len ≤ maxNumber)
       same =
           let l = number-is limit n legal in
-          let x : ℕ = first m len + value m 1 (take len (wordBits 64 left)) in
+          let x : ℕ = bodyNumber m left len in
           elim (decLe x maxNumber) [
             | yes h ↦ (is .0 h, omega arith)
             | no h ↦ absurd (true≢false (sym (is-number maxNumber n (l .0) (omega (arith, l .1))) ∙ is .1 (omega arith)))

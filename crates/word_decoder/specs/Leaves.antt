@@ -8,10 +8,14 @@ use lib.Seq.{slice}
 use Rattle.lists.specs.Lists.{sum}
 use Rattle.fibonacci.specs.Code.{runs, Codeword, number}
 use Rattle.fibonacci.specs.Encoding.{rowBits}
-use Rattle.calls.specs.Limits.{Legal, maxCount}
+use Rattle.fibonacci.specs.Tables.{Firsts}
+use Rattle.digit_tables.specs.Leaves.{byteValues}
+use Rattle.calls.specs.Limits.{Legal, maxNumber, maxCount, maxBytes}
 use Rattle.word_decoder.specs.declared.Progress.{Progress}
 use Rattle.word_decoder.specs.declared.Segment.{Segment}
 use Rattle.word_decoder.specs.declared.SpanProgress.{SpanProgress}
+
+-- ## What was taken
 
 -- The bits of b from bit k up to bit e are those of a row, whose numbers go up to a limit
 pub record Taken (m limit : ℕ) (b : List Bool) (k e : ℕ) (row : List ℕ) : Type 0 where
@@ -30,6 +34,21 @@ pub data Stopped (m limit : ℕ) (b : List Bool) (bit count most : ℕ) : Type 0
   -- the number of the next codeword is above the limit
   large : (size : ℕ) → Codeword m (take size (drop bit b)) → limit < number m (take size (drop bit b)) → Stopped m limit b bit count most
 
+-- ## A part of a row
+
+-- Where the part of a row ends that a place is in: before a span, in it, or behind it
+abbrev pub EndsSegment : ℕ → ℕ → ℕ → ℕ → Type 0
+EndsSegment from to place end = (end ≤ maxCount) × (place < maxCount → place < end) × (place < from → end ≤ from) × (from ≤ place → place < to → end ≤ to)
+
+-- How much of a sum of numbers from a place on counts in a span: all of it, or nothing
+abbrev pub CountsInSpan : ℕ → ℕ → ℕ → ℕ → ℕ → Type 0
+CountsInSpan sum from to place r = (from ≤ place → place < to → r ≡ sum) × (place < from → r ≡ 0) × (to ≤ place → r ≡ 0) × (r ≤ sum)
+
+-- What a part of a row is taken with: the tables of the order, an encoding that is not too long, a limit, how many numbers at most, and a bit
+abbrev pub SegmentInput : ℕ → List ℕ → List ℕ → List ℕ → ℕ → ℕ → ℕ → Type 0
+SegmentInput m firsts values s limit most from =
+    Firsts m firsts × (values ≡ byteValues m) × (length s ≤ maxBytes) × (limit ≤ maxNumber) × (most ≤ maxCount) × (from ≤ 8 * length s)
+
 -- Codewords were taken from bit k of b on, as long as words can take them and so many at most, and their numbers summed
 pub record Summed (m limit : ℕ) (b : List Bool) (k most : ℕ) (p : Segment) : Type 0 where
   pub row : List ℕ
@@ -38,6 +57,8 @@ pub record Summed (m limit : ℕ) (b : List Bool) (k most : ℕ) (p : Segment) :
   pub few : p .taken ≤ most
   pub total : p .sum ≡ sum row
   pub stopped : Stopped m limit b (p .bit) (p .taken) most
+
+-- ## The first codewords of an encoding
 
 -- The codewords of a row were taken from the start of b on, up to a bit, so many
 pub record DecodedPrefix (m limit : ℕ) (b : List Bool) (bit count : ℕ) (row : List ℕ) : Type 0 where
@@ -57,7 +78,7 @@ pub record Spanned (m limit from to : ℕ) (b : List Bool) (f : SpanProgress) : 
 abbrev pub StoredRow : ℕ → ℕ → List Bool → List ℕ → List ℕ → Progress → Type 0
 StoredRow m limit b before after f = DecodedPrefix m limit b (f .bit) (f .count) (take (f .count) after) × (length after ≡ length before)
 
--- .. as long as words can take them: all of the row's first codewords are taken that they do
+-- .. and words can take no more of them, or may not
 abbrev pub SpanTaken : ℕ → ℕ → ℕ → ℕ → List Bool → SpanProgress → Type 0
 SpanTaken m limit from to b f = Spanned m limit from to b f × Stopped m limit b (f .bit) (f .count) maxCount
 

@@ -71,7 +71,7 @@ lead-length [] = omega arith
 lead-length (false ∷ b) = omega arith
 lead-length (true ∷ b) = omega (arith, lead-length b)
 
--- ## Marks
+-- ## Where runs of ones start: marks
 
 pub starts-length : (m : ℕ) (b : List Bool) → length (runStarts m b) ≡ length b
 unfolding runStarts

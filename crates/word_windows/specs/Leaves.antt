@@ -6,9 +6,14 @@ use Prim.Native.Nat.{ℕ, _+_, _-_, _*_, _/_, _%_, _^_, _≤_, _<_}
 use lib.Dec.{leb}
 use lib.ListN.{length, take, drop, replicate}
 use Rattle.bits.specs.Bits.{wordBits}
-use Rattle.fibonacci.specs.Code.{leadingOnes}
+use Rattle.fibonacci.specs.Code.{leadingOnes, first}
 use Rattle.calls.specs.Limits.{isNumber, maxNumber}
+use Rattle.digit_values.specs.Leaves.{bodyValue}
 use Rattle.word_windows.specs.declared.Window.{Window}
+
+-- The number of the codeword of order m that has the first `len` bits of the word w before its last ones
+abbrev pub bodyNumber : ℕ → ℕ → ℕ → ℕ
+bodyNumber m w len = first m len + bodyValue m w len
 
 -- n is x where x is at most the largest number; else it is no number of a row
 abbrev pub ExactIfLegal : ℕ → ℕ → Type 0

@@ -29,7 +29,7 @@ step c =
       byte = byte (c .before .before .before);
       row-is = c .before .before .look-up .ensures .0;
       few = c .before .before .look-up .ensures .1;
-      bitValue = c .moved .ensures .0;
+      value-is = c .moved .ensures .0;
     }
 
 loop-holds : tie.Need-loop-holds Inv-loop μ-loop
@@ -72,7 +72,7 @@ returns : tie.Need-returns Inv-loop μ-loop
 returns c =
     let m = c .before .before .before .before in
     let k = m .before .before .before .before .before .loop .inv .2 in
-    rw (walked-many k (step m) (c .before .if1 .left) (omega (arith, c .if2 .taken))) (refl, tt, k .room)
+    rw (walked-many k (step m) (c .before .if1 .left) (omega (arith, c .if2 .taken))) ((refl, tt), k .room)
 
 number-requires : tie.Need-number-requires Inv-loop μ-loop
 number-requires c κs =
@@ -96,7 +96,7 @@ returns-2 c =
     let e = a .before .before .before in
     let m = e .before .before .before in
     let k = m .before .before .before .before .before .loop .inv .2 in
-    rw (walked-fault k (step m) (e .if1 .left) _ (a .before .number .ensures) (m .before .before .before .before .before .before .before .pre .2) _ (a .passing .ensures) (c .before .if3 .taken)) (ap refused (c .fault .ensures), tt, k .room)
+    rw (walked-fault k (step m) (e .if1 .left) _ (a .before .number .ensures) (m .before .before .before .before .before .before .before .pre .2) _ (a .passing .ensures) (c .before .if3 .taken)) ((ap refused (c .fault .ensures), tt), k .room)
 
 put-requires : tie.Need-put-requires Inv-loop μ-loop
 put-requires c κs =
@@ -121,7 +121,7 @@ returns-3 c =
     let all = c .before .before .before .before .if3 .left in
     let top = m .before .before .before .before .before .before .before .pre .2 in
     rw (walked-past k (step m) (e .if1 .left) _ (a .before .number .ensures) top _ (a .passing .ensures) all (c .if4 .taken), c .before .before .put .ensures)
-    (refl, tt, walked-room k (step m) (e .if1 .left) _ (a .before .number .ensures) top _ (a .passing .ensures) all)
+    ((refl, tt), walked-room k (step m) (e .if1 .left) _ (a .before .number .ensures) top _ (a .passing .ensures) all)
 
 add-i : tie.Need-add-i Inv-loop μ-loop
 add-i c = search needs
@@ -156,14 +156,14 @@ returns-4 : tie.Need-returns-4 Inv-loop μ-loop
 returns-4 c =
     let o = c .before .before in
     let l = o .before .loop in
-    rw (walked-rest (l .inv .2) (o .loop-test .left) (sym (c .before .is-padding .ensures) ∙ not-true _ (c .if5 .taken))) (refl, tt, l .inv .2 .room)
+    rw (walked-rest (l .inv .2) (o .loop-test .left) (sym (c .before .is-padding .ensures) ∙ not-true _ (c .if5 .taken))) ((refl, tt), l .inv .2 .room)
 
 returns-5 : tie.Need-returns-5 Inv-loop μ-loop
 returns-5 c =
     let o = c .before .before in
     let l = o .before .loop in
     let t = walked-padding (l .inv .2) (o .loop-test .left) (sym (c .before .is-padding .ensures) ∙ not-false _ (c .if5 .left)) in
-    rw (t .0) (ap accepted (sym (t .2)), ap (λ (n : ℕ). take n (l .row)) (t .2) ∙ t .1, l .inv .2 .room)
+    rw (t .0) ((ap accepted (sym (t .2)), ap (λ (n : ℕ). take n (l .row)) (t .2) ∙ t .1), l .inv .2 .room)
 
 pub walk-spec : {M : Type 1} → statement M
 walk-spec =
