@@ -8,8 +8,8 @@ ghost use Rattle.calls.specs.Limits.{maxNumber};
 ghost use Rattle.fibonacci.specs.Tables.{Firsts};
 ghost use Rattle.bit_decoder.specs.Leaves.{Sought};
 
-// Bits up to bit `bit`: first `len`, the last of them a zero, whose value is `val`, and then `run` ones. With as many ones as the order they are a codeword; with fewer,
-// no codeword ended, and no bit is left.
+// Bits up to bit `bit`: first `len`, the last of them a zero, whose value is `val`, and then `run` ones. With as many ones as the order they are a codeword;
+// with fewer, no codeword ended, and no bit is left.
 pub struct Next {
     pub bit: usize,
     pub len: usize,
@@ -18,7 +18,8 @@ pub struct Next {
 }
 
 // What `run` ones after `len` pending bits are worth once a zero follows them, by the first numbers: no loop over them. It matters only as long as a number of
-// that length can be at most 4,294,967,295; past that the table has no first number, and the result is 0.
+// that length can be at most 4,294,967,295; past that the table has no first number, and the result is 0. Requires: the first numbers of an order in use, and
+// fewer than 2^32 bits, which `seek` shows.
 fn ones_value(firsts: &[u32; 47], order: usize, len: usize, run: usize) -> u64
     requires { ⌜ Firsts order (now firsts) × (len + run < 2 ^ 32) ⌝ }
     ensures { λ r. ⌜ (first order (len + run + 1) ≤ maxNumber → r ≡ value order (len + 1) (ones run)) × (r ≤ maxNumber) ⌝ }
@@ -33,7 +34,8 @@ fn ones_value(firsts: &[u32; 47], order: usize, len: usize, run: usize) -> u64
     after - fibonacci::first_number(firsts, order, len + 1)
 }
 
-// The next codeword from a bit on, or what is left. The decoder checks the order and the length before, and stays within the bytes.
+// The next codeword from a bit on, or what is left. Requires: the first numbers of an order in use, fewer than 2^28 bytes, and a bit within them or at their
+// end, which the decoder checks or shows.
 pub fn seek(firsts: &[u32; 47], order: usize, s: &[u8], from: usize) -> Next
     requires { ⌜ Firsts order (now firsts) × (length (now s) < 2 ^ 28) × (from ≤ 8 * length (now s)) ⌝ }
     ensures { λ r. ⌜ Sought order (unpack (now (s .entry))) from r ⌝ }

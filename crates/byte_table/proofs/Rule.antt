@@ -10,7 +10,7 @@ use Rattle.bits.specs.Bits.{bitOf, wordBits}
 use Rattle.fibonacci.specs.Code.{past, F, value, first, number}
 use Rattle.fibonacci.specs.Encoding.{parse, parseAfter}
 use Rattle.byte_table.specs.declared.Row.{Row}
-use Rattle.byte_table.specs.Leaves.{withoutTrailing, trailingOnes, after, front, inside, rowOfParse, rowAt, headWord, tailWord, headWords, tailWords}
+use Rattle.byte_table.specs.Leaves.{withoutTrailing, trailingOnes, parseByte, finishing, insideNumbers, remains, rowOfParse, rowAt, headWord, tailWord, headWords, tailWords}
 
 -- The row that two words stand for
 abbrev pub unpacked : ℕ → ℕ → Row
@@ -18,19 +18,17 @@ unpacked head tail =
     record {
       count = head % 4;
       len = head / 4 % 16;
-      x = head / 64 % 512;
-      y = head / 32768 % 256;
-      z = head / 8388608 % 512;
+      coef0 = head / 64 % 512;
+      coef1 = head / 32768 % 256;
+      coef2 = head / 8388608 % 512;
       second = tail % 16;
       third = tail / 16 % 4;
-      left = tail / 1024 % 16;
-      val = tail / 16384 % 262144;
-      next = tail / 256 % 4 * 256;
+      rest = record { len = tail / 1024 % 16; value = tail / 16384 % 262144; ones = tail / 256 % 4 };
     }
 
 -- the words of each row stand for it
 tested : valuesFrom (λ i. unpacked (headWord (rowAt i)) (tailWord (rowAt i))) 0 768 ≡ valuesFrom rowAt 0 768
-unfolding rowAt rowOfParse after front inside withoutTrailing trailingOnes parse parseAfter value number first F past wordBits bitOf
+unfolding rowAt rowOfParse parseByte finishing insideNumbers remains withoutTrailing trailingOnes parse parseAfter value number first F past wordBits bitOf
 tested = refl
 
 pub rule : (i : ℕ) → i < 768 → unpacked (getD headWords i 0) (getD tailWords i 0) ≡ rowAt i

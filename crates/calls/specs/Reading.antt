@@ -1,5 +1,5 @@
 -- Reading bytes by any code (paper 01, "When a call says no": Read). The checks stand in the paper's order.
-use mathlib.Core.Bool.{Bool, not}
+use mathlib.Core.Bool.{Bool}
 use mathlib.Core.List.{List, [], _∷_}
 use Prim.Native.Nat.{ℕ, suc}
 use lib.Dec.{leb, ltb}
@@ -7,7 +7,7 @@ use lib.ListN.{length}
 use Rattle.calls.specs.declared.Refusal.{Refusal}
 use Rattle.calls.specs.declared.Refusal.the-variants.{TooManyBytes, TooManyCodewords, TooLarge, NoRoom}
 use Rattle.calls.specs.Calls.{Outcome, accepted, check, andThen}
-use Rattle.calls.specs.Limits.{isNumber, maxCount}
+use Rattle.calls.specs.Limits.{maxCount}
 
 -- A code, as far as reading goes by it
 pub record Code : Type 0 where
@@ -24,7 +24,7 @@ unfoldable pub checkFinished : {A : Type 0} → ℕ → ℕ → List ℕ → Out
 checkFinished limit place [] next = next
 checkFinished limit place (n ∷ ns) next =
     check TooManyCodewords (leb maxCount place)
-    (check (TooLarge place) (not (isNumber limit n))
+    (check (TooLarge place) (ltb limit n)
     (checkFinished limit (suc place) ns next))
 
 -- The numbers that bytes hold: 4 and 7, then what remains

@@ -175,14 +175,14 @@ pub fn table_row(n: &[u64; 5], b: u8) -> [u64; 10] {
     [
         r.count as u64,
         r.len as u64,
-        r.x,
-        r.y,
-        r.z,
+        r.coef0,
+        r.coef1,
+        r.coef2,
         wide(r.second),
         wide(r.third),
-        r.left as u64,
-        r.val,
-        (r.next / 256) as u64,
+        r.rest.len as u64,
+        r.rest.value,
+        r.rest.ones as u64,
     ]
 }
 
@@ -191,5 +191,5 @@ pub fn table_value(n: &[u64; 5], b: u8) -> u64 {
     let tails = byte_table::tails();
     let r = byte_table::look_up(&heads, &tails, (n[0] % 3) as usize * 256 + b as usize);
     let positions = byte_table::positions();
-    byte_table::moved(&positions, (n[1] % 38) as usize, r.x, r.y, r.z)
+    byte_table::moved(&positions, (n[1] % 38) as usize, r.coef0, r.coef1, r.coef2)
 }

@@ -21,7 +21,8 @@ use Rattle.calls.specs.Limits.{Order, isNumber, Legal, maxNumber, maxCount}
 use Rattle.calls.specs.Reading.{contents}
 use Rattle.calls.proofs.Checks.{number-is, positive}
 use Rattle.reading.specs.Reading.{fibonacci}
-use Rattle.reading.proofs.Checking.{Padding, padding-is, padding-not, contents-many, contents-large, contents-rest, contents-good, Numbered, numbered-legal, numbered-large}
+use Rattle.reading.specs.Leaves.{Numbered, isPadding}
+use Rattle.reading.proofs.Checking.{padding-is, padding-not, contents-many, contents-large, contents-rest, contents-good, numbered-legal, numbered-large}
 use Rattle.word_decoder.specs.Leaves.{DecodedPrefix, Taken}
 use Rattle.word_decoder.proofs.Taking.{taken-more}
 use Rattle.word_decoder.proofs.Spans.{decoded-end}
@@ -125,12 +126,12 @@ module _ (s : List ℕ) {m limit bit count : ℕ} {row : List ℕ} {r : Next} (o
     far-off : 8 ≤ r .len → 8 ≤ length (t .body)
     far-off l = omega (arith, t .long)
 
-    pub step-rest : Padding (r .len) (r .val) (r .run) ≡ false → contents (fibonacci m) limit s ≡ refused BadRest
+    pub step-rest : isPadding (r .len) (r .val) (r .run) ≡ false → contents (fibonacci m) limit s ≡ refused BadRest
     step-rest e =
         contents-rest limit m s row (g .taken .legal) words rest rest-is (row-numbers m row pos row-positive) (omega (arith, g .many, g .most))
         (padding-not m (t .body) (r .len) (r .val) (r .run) pos short far-off e)
 
-    pub step-end : Padding (r .len) (r .val) (r .run) ≡ true → contents (fibonacci m) limit s ≡ accepted row
+    pub step-end : isPadding (r .len) (r .val) (r .run) ≡ true → contents (fibonacci m) limit s ≡ accepted row
     step-end e =
         let q = padding-is m (t .body) (r .len) (r .val) (r .run) pos short far-off e in
         contents-good limit m s row (g .taken .legal) words rest rest-is (row-numbers m row pos row-positive) (omega (arith, g .many, g .most)) (q .0) (q .1)

@@ -4,13 +4,13 @@ ghost use Prim.Native.Nat.{_*_, _≤_, min};
 ghost use lib.Dec.{ltb};
 ghost use lib.ListN.{length};
 ghost use Rattle.bits.specs.Bits.{unpack};
-ghost use Rattle.calls.specs.Calls.{accepted, andThen, countOutcome};
+ghost use Rattle.calls.specs.Calls.{accepted, andThen};
 ghost use Rattle.calls.specs.Limits.{Order, maxNumber, maxCount, maxBytes};
 ghost use Rattle.calls.specs.Reading.{decode};
 ghost use Rattle.fibonacci.specs.Tables.{Firsts};
 ghost use Rattle.word_decoder.specs.Leaves.{Spanned, StoredRow};
-ghost use Rattle.reading.specs.Reading.{fibonacci};
-ghost use Rattle.reading.specs.Answers.{ReadPromise, Begins};
+ghost use Rattle.reading.specs.Reading.{fibonacci, ReadPromise};
+ghost use Rattle.reading.specs.Leaves.{Scanned};
 ghost use Rattle.decoder.specs.Leaves.{summary, spanOutcome, Leads};
 
 // So many bytes are read by words, and fewer bit by bit: sooner than a table of values is made.
@@ -44,7 +44,8 @@ fn too_long(s: &[u8]) -> bool
     s.len() > calls::MAX_BYTES
 }
 
-// What stands from a bit on, after so many numbers: 4 is checked before 7, and 6 where no codeword is left.
+// What stands from a bit on, after so many numbers: 4 is checked before 7, and 6 where no codeword is left. Requires: the first numbers of an order in use, an
+// encoding that is not too long, a limit of at most 4,294,967,295, and a bit within the bytes or at their end, which `store_row` and `sum_span` check or show.
 fn next_number(
     firsts: &[u32; 47],
     order: usize,
@@ -73,7 +74,9 @@ fn next_number(
     Step::Number(n, next.bit)
 }
 
-// The numbers that words store.
+// The numbers that words store; none of few bytes. That they are the first of the row is enough to know: the loop behind goes on from any bit, and so stores
+// all of the row. Requires: the first numbers of an order in use, an encoding that is not too long, and a limit of at most 4,294,967,295, which `store_row`
+// checks or requires.
 fn store_words(
     firsts: &[u32; 47],
     order: usize,
@@ -90,7 +93,8 @@ fn store_words(
     word_decoder::take_row(firsts, order, s, limit, row)
 }
 
-// The numbers that words sum.
+// The numbers that words sum; none of few bytes. As above, it is enough to know that they are the first of the row. Requires: the same, which `sum_span`
+// checks or requires.
 fn sum_words(
     firsts: &[u32; 47],
     order: usize,
@@ -114,11 +118,11 @@ fn sum_words(
     word_decoder::take_span(firsts, order, s, limit, from, to)
 }
 
-// Stores the row of an encoding in a list with room for every row that so many bytes can hold: no codeword is shorter than two bits. Each operation checks its
-// order before, and its limit is at most 4,294,967,295.
+// Stores the row of an encoding in a list. Requires: an order in use, a limit of at most 4,294,967,295, and room for every row that so many bytes can hold,
+// as no codeword is shorter than two bits, which each operation checks or shows.
 pub fn store_row(order: usize, s: &[u8], limit: u64, row: &mut [u32]) -> calls::CountAnswer
     requires { ⌜ Order order × (limit ≤ maxNumber) × (min maxCount (4 * length (now s)) ≤ length (now row)) ⌝ }
-    ensures { λ r. ⌜ (countOutcome r ≡ andThen (decode (fibonacci order) limit (now (s .entry))) (λ row. accepted (length row))) × Begins (decode (fibonacci order) limit (now (s .entry))) (now (row .exit)) ⌝ }
+    ensures { λ r. ⌜ Scanned (decode (fibonacci order) limit (now (s .entry))) r (now (row .exit)) ⌝ }
 {
     if too_long(s) {
         return calls::CountAnswer::Refused(calls::Refusal::TooManyBytes);
@@ -141,8 +145,8 @@ pub fn store_row(order: usize, s: &[u8], limit: u64, row: &mut [u32]) -> calls::
     }
 }
 
-// What is told of the row of an encoding and of a span of it, from one place up to but without another; the row itself goes nowhere. Each operation checks its
-// order before, and its limit is at most 4,294,967,295.
+// What is told of the row of an encoding and of a span of it, from one place up to but without another; the row itself goes nowhere. Requires: an order in
+// use and a limit of at most 4,294,967,295, which each operation checks or shows.
 pub fn sum_span(order: usize, s: &[u8], limit: u64, from: usize, to: usize) -> SpanAnswer
     requires { ⌜ Order order × (limit ≤ maxNumber) ⌝ }
     ensures { λ r. ⌜ spanOutcome r ≡ andThen (decode (fibonacci order) limit (now (s .entry))) (λ row. accepted (summary order from to row)) ⌝ }

@@ -11,9 +11,9 @@ use tables::VALUES_4;
 use tables::VALUES_5;
 use tables::VALUES_6;
 
-// The values of an order's digits by bytes, over what t holds: a table that a caller makes once and hands to `digit_values`. Every operation checks its order
-// before. (A constant is written out wherever it is used. So only the order's own is named, and it goes in place: five constants of which one is returned
-// are compiled to a look-up by the order for each entry.)
+// The values of an order's digits by bytes, over what t holds: a table that a caller makes once and hands to `digit_values`. (A constant is written out
+// wherever it is used. So only the order's own is named, and it goes in place: five constants of which one is returned are compiled to a look-up by the order
+// for each entry.) Requires: an order in use, which every operation checks.
 pub fn fill(t: &mut [u32; 1536], order: usize)
     requires { ⌜ Order order ⌝ }
     ensures { λ r. ⌜ now (t .exit) ≡ byteValues order ⌝ }

@@ -1,15 +1,14 @@
 // What the first bits of a word are worth as digits in order 2 to 6, by a table of bytes.
 ghost use mathlib.Core.Path.{_≡_};
-ghost use mathlib.Core.Bool.{false};
 ghost use Prim.Native.Nat.{_+_, _-_, _*_, _/_, _^_, _≤_, _<_, min};
-ghost use lib.ListN.{take, getD};
 ghost use Rattle.bits.specs.Bits.{wordBits};
 ghost use Rattle.fibonacci.specs.Code.{value};
 ghost use Rattle.calls.specs.Limits.{maxNumber, Order};
 ghost use Rattle.digit_tables.specs.Leaves.{byteValues};
-ghost use Rattle.digit_values.specs.Leaves.{Saturated};
+ghost use Rattle.digit_values.specs.Leaves.{IsBody, bodyValue, Saturated};
 
-// What byte c of x is worth, its top bit being digit 8 c + 1; the largest number where that is above.
+// What byte c of x is worth, its top bit being digit 8 c + 1; the largest number where that is above. Requires: the table of the order, and one of six bytes,
+// which those below require or show.
 fn entry(values: &[u32; 1536], order: usize, c: usize, x: u64) -> u64
     requires { ⌜ (now values ≡ byteValues order) × (c < 6) ⌝ }
     ensures { λ r. ⌜ (r ≡ min maxNumber (value order (8 * c + 1) (wordBits 8 (x / 2 ^ (56 - 8 * c))))) × (r ≤ maxNumber) ⌝ }
@@ -18,7 +17,7 @@ fn entry(values: &[u32; 1536], order: usize, c: usize, x: u64) -> u64
     calls::wide(values[256 * c + byte])
 }
 
-// The first two bytes of x.
+// What the first two bytes of x are worth. Requires: the table of the order, which `value` requires.
 fn first_two(values: &[u32; 1536], order: usize, x: u64) -> u64
     requires { ⌜ now values ≡ byteValues order ⌝ }
     ensures { λ r. ⌜ Saturated (value order 1 (wordBits 16 (x / 2 ^ 48))) r × (r ≤ 2 * maxNumber) ⌝ }
@@ -26,7 +25,7 @@ fn first_two(values: &[u32; 1536], order: usize, x: u64) -> u64
     entry(values, order, 0, x) + entry(values, order, 1, x)
 }
 
-// The four bytes after them.
+// What the four bytes after them are worth. Requires: the same.
 fn next_four(values: &[u32; 1536], order: usize, x: u64) -> u64
     requires { ⌜ now values ≡ byteValues order ⌝ }
     ensures { λ r. ⌜ Saturated (value order 17 (wordBits 32 (x / 2 ^ 16))) r × (r ≤ 4 * maxNumber) ⌝ }
@@ -37,7 +36,7 @@ fn next_four(values: &[u32; 1536], order: usize, x: u64) -> u64
         + entry(values, order, 5, x)
 }
 
-// The first len bits of w, then zeros.
+// The first len bits of w, then zeros. Requires: 46 bits at most, which `byte_value` and `value` require.
 fn masked(w: u64, len: usize) -> u64
     requires { ⌜ len ≤ 46 ⌝ }
     ensures { λ r. ⌜ r ≡ w / 2 ^ (64 - len) * 2 ^ (64 - len) ⌝ }
@@ -45,19 +44,20 @@ fn masked(w: u64, len: usize) -> u64
     w & !(18446744073709551615 >> len)
 }
 
-// The value of the first len bits of w, the first being digit 1, of which the last is a zero: every stem of a codeword is empty or ends in one. So one byte is
-// enough for nine bits. The reader has the table from `digit_tables`, and shows that the word begins with such a stem.
+// The value of the first len bits of w, the first being digit 1. One byte is enough for nine bits, as the last of them is a zero. Requires: the table that
+// `digit_tables` makes for an order in use, nine bits at most, and bits that can stand before the last ones of a codeword, which `word_windows` checks or
+// requires.
 pub fn byte_value(values: &[u32; 1536], order: usize, w: u64, len: usize) -> u64
-    requires { ⌜ Order order × (now values ≡ byteValues order) × (len ≤ 9) × (1 ≤ len → getD (wordBits 64 w) (len - 1) false ≡ false) ⌝ }
-    ensures { λ r. ⌜ Saturated (value order 1 (take len (wordBits 64 w))) r × (r ≤ maxNumber) ⌝ }
+    requires { ⌜ Order order × (now values ≡ byteValues order) × (len ≤ 9) × IsBody w len ⌝ }
+    ensures { λ r. ⌜ Saturated (bodyValue order w len) r × (r ≤ maxNumber) ⌝ }
 {
     entry(values, order, 0, masked(w, len))
 }
 
-// The same of any stem of a legal number, by two bytes for up to 17 bits.
+// The same of as many bits as a legal number has before its last ones, by two bytes for up to 17 bits. Requires: the same of 46 bits at most.
 pub fn value(values: &[u32; 1536], order: usize, w: u64, len: usize) -> u64
-    requires { ⌜ Order order × (now values ≡ byteValues order) × (len ≤ 46) × (1 ≤ len → getD (wordBits 64 w) (len - 1) false ≡ false) ⌝ }
-    ensures { λ r. ⌜ Saturated (value order 1 (take len (wordBits 64 w))) r × (r ≤ 6 * maxNumber) ⌝ }
+    requires { ⌜ Order order × (now values ≡ byteValues order) × (len ≤ 46) × IsBody w len ⌝ }
+    ensures { λ r. ⌜ Saturated (bodyValue order w len) r × (r ≤ 6 * maxNumber) ⌝ }
 {
     let x = masked(w, len);
     let two = first_two(values, order, x);

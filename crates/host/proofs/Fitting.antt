@@ -14,7 +14,7 @@ use Rattle.calls.specs.declared.Refusal.{Refusal}
 use Rattle.calls.specs.declared.Refusal.the-variants.{BadOrder, TooManyBytes, TooManyCodewords, NoRoom, BadRest, TooLarge, BadSpan}
 use Rattle.calls.specs.Refusals.{reason}
 use Rattle.calls.specs.Calls.{Outcome, accepted, refused, check, andThen}
-use Rattle.calls.specs.Limits.{isOrder, isNumber, maxNumber, maxCount, maxBytes}
+use Rattle.calls.specs.Limits.{isOrder, maxNumber, maxCount, maxBytes}
 use Rattle.calls.specs.Reading.{checkFinished, contents, decode}
 use Rattle.reading.specs.Reading.{isBadRest, fibonacci}
 use Rattle.reading.proofs.Decoding.{decode-is}
@@ -53,7 +53,7 @@ finished-fits P limit i (n ∷ ns) next f h =
       | yes l ↦ rw (le-leb maxCount i l) (omega arith)
       | no l ↦
           check-fits P TooManyCodewords (leb maxCount i) _ (omega arith)
-          (check-fits P (TooLarge i) (not (isNumber limit n)) _ h (finished-fits P limit (suc i) ns next f (omega arith)))
+          (check-fits P (TooLarge i) (ltb limit n) _ h (finished-fits P limit (suc i) ns next f (omega arith)))
     ]
 
 decode-fits : (m : ℕ) (s : List ℕ) → Fits (λ x. Unit {0}) (decode (fibonacci m) maxNumber s)

@@ -3,7 +3,7 @@ use mathlib.Core.Path.{_≡_, refl, sym, ap, _∙_}
 use mathlib.Core.Bool.{Bool, true, false, _&&_, true≢false, or-true}
 use mathlib.Core.List.{List, [], _∷_, _++_, map}
 use mathlib.Core.Logic.{_⊎_, inl, inr}
-use Prim.Native.Nat.{ℕ, zero, suc, _+_, _≤_, _<_}
+use Prim.Native.Nat.{ℕ, zero, suc, _+_, _-_, _≤_, _<_}
 use native.Mathlib.Omega.{arith}
 use native.Mathlib.Decide.{decLe}
 use lib.Dec.{leb, ltb, eqb}
@@ -12,15 +12,17 @@ use borrow.Author.Tests.{le-leb, lt-leb, lt-ltb, eq-eqb, ltb-true, eqb-true}
 use Rattle.bits.specs.Bits.{unpack, count}
 use Rattle.bits.proofs.Count.{count-append}
 use Rattle.fibonacci.specs.Code.{ones, value, first, number}
-use Rattle.fibonacci.specs.Encoding.{parsed, parse, numbers}
+use Rattle.fibonacci.specs.Encoding.{Positive, parsed, codewords, parse, numbers}
 use Rattle.calls.specs.declared.Refusal.the-variants.{TooManyCodewords, TooLarge, BadRest}
 use Rattle.calls.specs.Calls.{accepted, refused, check}
 use Rattle.calls.specs.Limits.{isNumber, Legal, maxNumber, maxCount}
 use Rattle.calls.specs.Reading.{contents}
-use Rattle.calls.proofs.Checks.{both, number-is, above-number}
-use Rattle.calls.proofs.Finished.{finished-all, finished-many, finished-large, finished-past}
+use Rattle.calls.proofs.Checks.{both, number-is}
+use Rattle.calls.proofs.Finished.{finished-all, finished-many, finished-large, finished-past, illegal-above}
 use Rattle.fibonacci.proofs.Numeration.{F-pos}
+use Rattle.fibonacci.proofs.Numbers.{first-pos}
 use Rattle.reading.specs.Reading.{isBadRest, fibonacci}
+use Rattle.reading.specs.Leaves.{Numbered, isPadding}
 
 -- ## Pending bits at the end
 
@@ -42,10 +44,6 @@ unfolding count
 count-ones zero = refl
 count-ones (suc k) = omega (arith, count-ones k)
 
--- what is pending at the end, by its length, its value and its ones
-abbrev pub Padding : ℕ → ℕ → ℕ → Bool
-Padding len val run = ltb len 8 && (eqb val 0 && eqb run 0)
-
 -- Of the pending bits before those ones, `body`, only a length below 8 and the value then need be known
 module _ (m : ℕ) (body : List Bool) (len val run : ℕ) (pos : 1 ≤ m) (short : len < 8 → (length body ≡ len) × (val ≡ value m 1 body)) (far : 8 ≤ len → 8 ≤ length body) where
   abbrev pending : List Bool
@@ -57,7 +55,7 @@ module _ (m : ℕ) (body : List Bool) (len val run : ℕ) (pos : 1 ≤ m) (short
   pending-ones : count true pending ≡ count true body + run
   pending-ones = omega (arith, count-append true body (ones run), count-ones run)
 
-  pub padding-is : Padding len val run ≡ true → (length pending < 8) × (count true pending ≡ 0) × (run ≡ 0)
+  pub padding-is : isPadding len val run ≡ true → (length pending < 8) × (count true pending ≡ 0) × (run ≡ 0)
   padding-is e =
       let p = both (ltb len 8) (eqb val 0 && eqb run 0) e in
       let q = both (eqb val 0) (eqb run 0) (p .1) in
@@ -66,7 +64,7 @@ module _ (m : ℕ) (body : List Bool) (len val run : ℕ) (pos : 1 ≤ m) (short
       let v : value m 1 body ≡ 0 = omega (arith, eqb-true val 0 (q .0), s .1) in
       (omega (arith, pending-long, s .0, ltb-true len 8 (p .0)), omega (arith, pending-ones, value-none m 1 body v pos), r)
 
-  pub padding-not : Padding len val run ≡ false → (8 ≤ length pending) ⊎ (1 ≤ count true pending)
+  pub padding-not : isPadding len val run ≡ false → (8 ≤ length pending) ⊎ (1 ≤ count true pending)
   padding-not e =
       elim (decLe 8 len) [
         | yes l ↦ inl (omega (arith, pending-long, far l))
@@ -100,7 +98,7 @@ module _ (limit m : ℕ) (s done : List ℕ) (legal : Legal limit done) where
   unfolding contents
   contents-many x more e l = rw e (finished-many limit done legal _ x more l)
 
-  pub contents-large : (x : ℕ) (more : List ℕ) → numbers m b ≡ done ++ (x ∷ more) → length done < maxCount → isNumber limit x ≡ false
+  pub contents-large : (x : ℕ) (more : List ℕ) → numbers m b ≡ done ++ (x ∷ more) → length done < maxCount → limit < x
       → contents (fibonacci m) limit s ≡ refused (TooLarge (length done))
   unfolding contents
   contents-large x more e l n = rw e (finished-large limit done legal _ x more l n)
@@ -123,13 +121,24 @@ module _ (limit m : ℕ) (s done : List ℕ) (legal : Legal limit done) where
       → length r < 8 → count true r ≡ 0 → contents (fibonacci m) limit s ≡ accepted done
   contents-good words r e w l h z = contents-end words r e w l ∙ ap (λ (t : Bool). check BadRest t (accepted done)) (rest-good r h z)
 
+-- ## Numbers of codewords
+
+-- they are from 1 up
+pub number-positive : (m : ℕ) (w : List Bool) → 1 ≤ number m w
+unfolding number
+number-positive m w = omega (arith, first-pos m (length w - m))
+
+pub coded-positive : (m : ℕ) (ws : List (List Bool)) → Positive (map (number m) ws)
+coded-positive m [] = tt
+coded-positive m (w ∷ ws) = (number-positive m w, coded-positive m ws)
+
+pub numbers-positive : (m : ℕ) (b : List Bool) → Positive (numbers m b)
+unfolding numbers
+numbers-positive m b = coded-positive m (codewords (parse m b))
+
 -- ## A number by its length and its value
 
--- What is known of n, made from the `len` bits before the last ones of a codeword and their value, as far as a number of that length can be legal
-abbrev pub Numbered : ℕ → ℕ → ℕ → ℕ → Type 0
-Numbered m len val n = (first m len ≤ maxNumber → n ≡ first m len + val) × (maxNumber < first m len → n ≡ 0)
-
--- The codeword's own number x: n passes the check only where it is x, and fails only where x does
+-- n was found for the codeword's own number x: it passes the check only where it is x, and fails only where x is above the limit
 module _ (m len val n : ℕ) (is : Numbered m len val n) (x : ℕ) (near : first m len ≤ maxNumber → x ≡ first m len + val) (far : maxNumber < first m len → maxNumber < x)
     (limit : ℕ) (top : limit ≤ maxNumber) where
   pub numbered-legal : isNumber limit n ≡ true → n ≡ x
@@ -140,9 +149,9 @@ module _ (m len val n : ℕ) (is : Numbered m len val n) (x : ℕ) (near : first
         | no g ↦ absurd (omega (arith, is .1 (omega arith)))
       ]
 
-  pub numbered-large : isNumber limit n ≡ false → isNumber limit x ≡ false
+  pub numbered-large : isNumber limit n ≡ false → limit < x
   numbered-large l =
       elim (decLe (first m len) maxNumber) [
-        | yes g ↦ let same : n ≡ x = omega (arith, is .0 g, near g) in rw (← same) l
-        | no g ↦ above-number limit x (omega (arith, far (omega arith))) (omega (arith, far (omega arith)))
+        | yes g ↦ omega (arith, is .0 g, near g, illegal-above limit n (omega (arith, is .0 g, first-pos m len)) l)
+        | no g ↦ omega (arith, far (omega arith))
       ]

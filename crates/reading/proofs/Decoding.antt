@@ -16,7 +16,7 @@ use Rattle.calls.specs.Limits.{isOrder, Order, Legal, maxNumber, maxCount, maxB
 use Rattle.calls.specs.Reading.{contents, decode, counted}
 use Rattle.calls.proofs.Checks.{order-is, is-order, check-passed, then-passed, accepted-one}
 use Rattle.calls.proofs.Finished.{finished-all, finished-passed}
-use Rattle.reading.proofs.Checking.{rest-good}
+use Rattle.reading.proofs.Checking.{rest-good, numbers-positive}
 use Rattle.reading.specs.Reading.{isBadRest, fibonacci, read, readInto}
 
 neither : (a b : Bool) → (a || b) ≡ false → (a ≡ false) × (b ≡ false)
@@ -48,7 +48,7 @@ unfolding decode contents
 decode-is m limit s row e =
     let r : List Bool = rest (parse m (unpack s)) in
     let p2 = check-passed TooManyBytes (ltb maxBytes (length s)) _ row e in
-    let p47 = finished-passed limit 0 (numbers m (unpack s)) _ row (omega arith) (p2 .1) in
+    let p47 = finished-passed limit 0 (numbers m (unpack s)) _ row (numbers-positive m (unpack s)) (omega arith) (p2 .1) in
     let p6 = check-passed BadRest (isBadRest r) _ row (p47 .2) in
     let good = neither (leb 8 (length r)) (leb 1 (count true r)) (p6 .0) in
     let same : row ≡ numbers m (unpack s) = accepted-one (sym (p6 .1)) in

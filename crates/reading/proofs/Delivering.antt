@@ -15,19 +15,15 @@ use Rattle.calls.specs.Calls.{Outcome, accepted, refused, answerResults, check,
 use Rattle.calls.specs.Limits.{isOrder, maxNumber}
 use Rattle.calls.specs.Reading.{decode, counted}
 use Rattle.calls.proofs.Checks.{accepted-one, not-both}
-use Rattle.reading.specs.Reading.{fibonacci, read, readInto}
-use Rattle.reading.specs.Answers.{ReadPromise, Begins, Holds, delivered, Delivers}
+use Rattle.reading.specs.Reading.{fibonacci, read, readInto, ReadPromise}
+use Rattle.reading.specs.Leaves.{counting, Begins, Scanned, Holds, delivered, Delivers}
 use Rattle.reading.proofs.Decoding.{decode-is}
 
--- How many numbers a row has
-abbrev pub counting : Outcome (List ℕ) → Outcome ℕ
-counting d = andThen d (λ row. accepted (length row))
-
 -- a list that begins with the row has room for it
-pub holds-row : (d : Outcome (List ℕ)) (list : List ℕ) (a : CountAnswer) → countOutcome a ≡ counting d → Begins d list → Holds a (length list)
-holds-row (accepted row) list (Count n) e b = omega (arith, accepted-one e, ap length b, length-take (length row) list)
-holds-row (refused r) list (Count n) e b = absurd (not-both (sym e))
-holds-row d list (Refused r) e b = tt
+pub holds-row : (d : Outcome (List ℕ)) (list : List ℕ) (a : CountAnswer) → Scanned d a list → Holds a (length list)
+holds-row (accepted row) list (Count n) s = omega (arith, accepted-one (s .0), ap length (s .1), length-take (length row) list)
+holds-row (refused r) list (Count n) s = absurd (not-both (sym (s .0)))
+holds-row d list (Refused r) s = tt
 
 counted-all : (d : Outcome (List ℕ)) (room : ℕ) → delivered (counting d) room ≡ andThen d (counted room)
 counted-all (accepted row) room = refl
@@ -44,15 +40,14 @@ written-all (accepted row) room list before ns b is = rw (← is row refl) (writ
 written-all (refused r) room list before ns b is = refl
 
 module _ (m : ℕ) (s before list after : List ℕ) (scanned a : CountAnswer) (o : isOrder m ≡ true) where
-  pub delivered-read : countOutcome scanned ≡ counting (decode (fibonacci m) maxNumber s) → Begins (decode (fibonacci m) maxNumber s) list
-      → Delivers scanned list before a after → ReadPromise m s before a after
+  pub delivered-read : Scanned (decode (fibonacci m) maxNumber s) scanned list → Delivers scanned list before a after → ReadPromise m s before a after
   unfolding read readInto
-  delivered-read e b w =
+  delivered-read f w =
       let d = decode (fibonacci m) maxNumber s in
       let same : countOutcome a ≡ andThen d (counted (length before)) =
-      w .0 ∙ ap (λ (x : Outcome ℕ). delivered x (length before)) e ∙ counted-all d (length before) in
+      w .0 ∙ ap (λ (x : Outcome ℕ). delivered x (length before)) (f .0) ∙ counted-all d (length before) in
       rw o (
         same,
         w .1 ∙ ap (λ (x : Outcome ℕ). buffer x (take (answerResults 0 x) list) before) same
-            ∙ written-all d (length before) list before (numbers m (unpack s)) b (λ row h. decode-is m maxNumber s row h .is),
+            ∙ written-all d (length before) list before (numbers m (unpack s)) (f .1) (λ row h. decode-is m maxNumber s row h .is),
       )

@@ -1,4 +1,5 @@
 -- Reading an encoding (paper 01, "When a call says no": Read). The checks stand in the paper's order.
+use mathlib.Core.Path.{_≡_}
 use mathlib.Core.Bool.{Bool, true, not, _||_}
 use mathlib.Core.List.{List}
 use Prim.Native.Nat.{ℕ}
@@ -7,7 +8,8 @@ use lib.ListN.{length}
 use Rattle.bits.specs.Bits.{unpack, count}
 use Rattle.fibonacci.specs.Encoding.{rest, parse, numbers}
 use Rattle.calls.specs.declared.Refusal.the-variants.{BadOrder, BadRest}
-use Rattle.calls.specs.Calls.{Outcome, check, andThen, buffer}
+use Rattle.calls.specs.declared.CountAnswer.{CountAnswer}
+use Rattle.calls.specs.Calls.{Outcome, check, andThen, buffer, countOutcome}
 use Rattle.calls.specs.Limits.{isOrder, maxNumber, maxBytes}
 use Rattle.calls.specs.Reading.{Code, decode, counted}
 
@@ -27,3 +29,7 @@ read m s room = check BadOrder (not (isOrder m)) (andThen (decode (fibonacci m) 
 -- The output after reading
 unfoldable pub readInto : ℕ → List ℕ → List ℕ → List ℕ
 readInto m s before = buffer (read m s (length before)) (numbers m (unpack s)) before
+
+-- What a reader of order m promises of its answer, and of its output before and after
+abbrev pub ReadPromise : ℕ → List ℕ → List ℕ → CountAnswer → List ℕ → Type 0
+ReadPromise m s before a after = (countOutcome a ≡ read m s (length before)) × (after ≡ readInto m s before)

@@ -1,19 +1,15 @@
 // What every reader of an encoding shares: the number of a codeword that ends, and the padding.
 ghost use mathlib.Core.Path.{_≡_};
-ghost use mathlib.Core.Bool.{_&&_};
-ghost use Prim.Native.Nat.{_+_, _^_, _≤_, _<_};
-ghost use lib.Dec.{eqb, ltb};
+ghost use Prim.Native.Nat.{_^_, _<_};
 ghost use lib.ListN.{length};
-ghost use Rattle.fibonacci.specs.Code.{first};
-ghost use Rattle.calls.specs.Limits.{maxNumber};
-ghost use Rattle.reading.specs.Answers.{Holds, Delivers};
 ghost use Rattle.fibonacci.specs.Tables.{Firsts};
+ghost use Rattle.reading.specs.Leaves.{Numbered, isPadding, Holds, Delivers};
 
-// The number of a codeword by the bits before its last ones and their value; 0 where it is above 4,294,967,295 by its length alone. The readers check their
-// order before, and each bit or byte of an encoding adds little to a value.
+// The number of a codeword by the bits before its last ones and their value; 0 where it is above 4,294,967,295 by its length alone. Requires: the first
+// numbers of an order in use, and a value below 2^63, which the readers show: each bit or byte of an encoding adds little to a value.
 pub fn number(firsts: &[u32; 47], order: usize, len: usize, val: u64) -> u64
     requires { ⌜ Firsts order (now firsts) × (val < 2 ^ 63) ⌝ }
-    ensures { λ r. ⌜ (first order len ≤ maxNumber → r ≡ first order len + val) × (maxNumber < first order len → r ≡ 0) ⌝ }
+    ensures { λ r. ⌜ Numbered order len val r ⌝ }
 {
     let least = fibonacci::first_number(firsts, order, len);
     if least == 0 { 0 } else { least + val }
@@ -21,13 +17,13 @@ pub fn number(firsts: &[u32; 47], order: usize, len: usize, val: u64) -> u64
 
 // Whether pending bits are padding: fewer than 8, and no one among them, which would count in their value or in the ones at their end.
 pub fn is_padding(len: usize, val: u64, run: usize) -> bool
-    ensures { λ r. ⌜ r ≡ (ltb len 8 && (eqb val 0 && eqb run 0)) ⌝ }
+    ensures { λ r. ⌜ r ≡ isPadding len val run ⌝ }
 {
     len < 8 && (val == 0 && run == 0)
 }
 
-// What a reader answers once it has scanned an encoding: the row goes from the list that the scan stored it in to the output. The readers' lists have room for
-// every row.
+// What a reader answers once it has scanned an encoding: the row goes from the list that the scan stored it in to the output. Requires: a list with as many
+// elements as were counted, which the readers show: the scan has stored the row there.
 pub fn deliver(scanned: calls::CountAnswer, row: &[u32], out: &mut [u32]) -> calls::CountAnswer
     requires { ⌜ Holds scanned (length (now row)) ⌝ }
     ensures { λ r. ⌜ Delivers scanned (now (row .entry)) (now (out .entry)) r (now (out .exit)) ⌝ }

@@ -7,15 +7,16 @@ ghost use lib.Seq.{sets};
 ghost use Rattle.calls.specs.Limits.{maxNumber};
 ghost use Rattle.calls.specs.Reading.{decode};
 ghost use Rattle.reading.specs.Reading.{fibonacci};
-ghost use Rattle.table_scan.specs.Leaves.{Scanned};
+ghost use Rattle.table_scan.specs.Leaves.{ScanResult};
 ghost use Rattle.table_decoder.specs.Reading.{ReadTablePromise, numberBytes, rowBytes, ReadBytesPromise};
 use calls::CountAnswer;
 use calls::Refusal;
 
 // The scan of an encoding, whose numbers go up to a limit: its checks, and how many numbers the row has. The row goes to a list of the caller's own.
+// Requires: a limit of at most 4,294,967,295, and the list's length, which `read` and `read_bytes` show.
 fn scan_into(s: &[u8], limit: u64, row: &mut [u32; table_scan::ROOM]) -> CountAnswer
     requires { ⌜ (limit ≤ maxNumber) × (length (now row) ≡ 4098) ⌝ }
-    ensures { λ r. ⌜ Scanned (decode (fibonacci 3) limit (now (s .entry))) r (now (row .exit)) ⌝ }
+    ensures { λ r. ⌜ ScanResult (decode (fibonacci 3) limit (now (s .entry))) r (now (row .exit)) ⌝ }
 {
     if s.len() > calls::MAX_BYTES {
         return CountAnswer::Refused(Refusal::TooManyBytes);
@@ -36,7 +37,7 @@ pub fn read(s: &[u8], out: &mut [u32]) -> CountAnswer
     reading::deliver(scanned, &row, out)
 }
 
-// A number as four bytes from byte i on, the lowest first.
+// A number as four bytes from byte i on, the lowest first. Requires: room for them, which `put_row` shows.
 fn put_number(out: &mut [u8], i: usize, n: u32)
     requires { ⌜ i + 4 ≤ length (now out) ⌝ }
     ensures { λ r. ⌜ now (out .exit) ≡ sets (now (out .entry)) i (numberBytes n) ⌝ }
@@ -47,7 +48,7 @@ fn put_number(out: &mut [u8], i: usize, n: u32)
     out[i + 3] = (n / 16777216 % 256) as u8;
 }
 
-// The first n numbers of a list as bytes over those of a buffer.
+// The first n numbers of a list as bytes over those of a buffer. Requires: so many numbers, and room for their bytes, which `read_bytes` shows or checks.
 fn put_row(out: &mut [u8], row: &[u32], n: usize)
     requires { ⌜ (n ≤ length (now row)) × (4 * n ≤ length (now out)) ⌝ }
     ensures { λ r. ⌜ now (out .exit) ≡ rowBytes (take n (now (row .entry))) ++ drop (4 * n) (now (out .entry)) ⌝ }

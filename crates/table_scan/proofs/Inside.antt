@@ -1,15 +1,12 @@
 -- The codewords that end in a byte: whether there is one, their numbers, and where these are stored.
 use mathlib.Core.Path.{_≡_, refl, sym, ap, _∙_}
 use mathlib.Core.Bool.{Bool}
-use mathlib.Core.List.{List, [], _∷_, _++_, map}
+use mathlib.Core.List.{List, [], _∷_, _++_}
 use Prim.Native.Nat.{ℕ, suc, _+_, _≤_}
 use native.Mathlib.Omega.{arith}
 use lib.ListN.{length, getD, take, drop, length-append, length-take}
 use lib.Seq.{sets, sets-eq, take-append-le, take-append-add}
-use Rattle.lists.specs.Lists.{All}
-use Rattle.fibonacci.specs.Code.{Codeword, number}
-use Rattle.fibonacci.specs.Encoding.{Positive, Parse, parsed, codewords, rest}
-use Rattle.fibonacci.proofs.Numbers.{codeword-number}
+use Rattle.fibonacci.specs.Encoding.{Parse, parsed, codewords, rest}
 
 -- ## Parses with and without a codeword
 
@@ -40,8 +37,3 @@ taken row new count n h k =
     ap (take (count + n)) (sets-eq new row count h)
     ∙ take-append-le (count + n) (take count row ++ new) (drop (count + length new) row) (omega (arith, length-append (take count row) new, long))
     ∙ ap (λ (c : ℕ). take (c + n) (take count row ++ new)) (sym long) ∙ take-append-add (take count row) new n
-
--- the numbers of codewords are from 1 up
-pub coded-positive : (ws : List (List Bool)) → All (Codeword 3) ws → Positive (map (number 3) ws)
-coded-positive [] a = tt
-coded-positive (w ∷ ws) a = (codeword-number 3 w (omega arith) (a .0) .1, coded-positive ws (a .1))

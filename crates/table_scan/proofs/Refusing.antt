@@ -12,23 +12,24 @@ use Rattle.bits.specs.Bits.{unpack}
 use Rattle.calls.specs.Calls.{refused}
 use Rattle.calls.specs.Limits.{isNumber, Legal, maxCount}
 use Rattle.calls.specs.Reading.{contents}
-use Rattle.calls.proofs.Checks.{is-number, above-number}
+use Rattle.calls.proofs.Checks.{is-number}
+use Rattle.calls.proofs.Finished.{illegal-above}
 use Rattle.fibonacci.specs.Encoding.{Positive, numbers}
 use Rattle.reading.specs.Reading.{fibonacci}
 use Rattle.reading.proofs.Checking.{contents-many, contents-large, contents-past}
 use Rattle.table_scan.specs.Leaves.{Passes, faultAt}
 
-module _ (limit x : ℕ) where
+module _ (limit x : ℕ) (pos : 1 ≤ x) where
   -- the first at fault, after so many that pass
   fault : (ns : List ℕ) → length ns ≤ 2 → Positive ns → (good : ℕ) → Passes (isNumber limit x) limit (getD ns 0 0) (getD ns 1 0) good → good < 3
-      → (xs : List ℕ) × (y : ℕ) × (ys : List ℕ) × (x ∷ ns ≡ xs ++ (y ∷ ys)) × Legal limit xs × (length xs ≡ good) × (isNumber limit y ≡ false)
-  fault ns h a zero p l = ([], _, _, refl, tt, refl, p)
+      → (xs : List ℕ) × (y : ℕ) × (ys : List ℕ) × (x ∷ ns ≡ xs ++ (y ∷ ys)) × Legal limit xs × (length xs ≡ good) × (limit < y)
+  fault ns h a zero p l = ([], _, _, refl, tt, refl, illegal-above limit x pos p)
   fault [] h a (suc zero) p l = absurd (omega (arith, p .1))
-  fault (b ∷ ns) h a (suc zero) p l = (x ∷ [], _, _, refl, (p .0, tt), refl, above-number limit b (a .0) (p .1))
+  fault (b ∷ ns) h a (suc zero) p l = (x ∷ [], _, _, refl, (p .0, tt), refl, p .1)
   fault [] h a (suc (suc zero)) p l = absurd (omega (arith, p .2))
   fault (b ∷ []) h a (suc (suc zero)) p l = absurd (omega (arith, p .2))
   fault (b ∷ c ∷ ns) h a (suc (suc zero)) p l =
-      (x ∷ b ∷ [], _, _, refl, (p .0, (is-number limit b (a .0) (p .1), tt)), refl, above-number limit c (a .1 .0) (p .2))
+      (x ∷ b ∷ [], _, _, refl, (p .0, (is-number limit b (a .0) (p .1), tt)), refl, p .2)
   fault ns h a (suc (suc (suc more))) p l = absurd (omega arith)
 
   -- none is at fault
@@ -45,7 +46,7 @@ module _ (limit x : ℕ) where
 -- ## What the contents are refused for
 
 -- the numbers `done` have passed, and y does not
-refused-at : (limit : ℕ) (s done : List ℕ) (y : ℕ) (more : List ℕ) → Legal limit done → numbers 3 (unpack s) ≡ done ++ (y ∷ more) → isNumber limit y ≡ false
+refused-at : (limit : ℕ) (s done : List ℕ) (y : ℕ) (more : List ℕ) → Legal limit done → numbers 3 (unpack s) ≡ done ++ (y ∷ more) → limit < y
     → contents (fibonacci 3) limit s ≡ refused (faultAt (length done))
 refused-at limit s done y more a e bad =
     elim (decLe maxCount (length done)) [
@@ -57,11 +58,11 @@ refused-at limit s done y more a e bad =
           ])
     ]
 
-module _ (limit : ℕ) (s done : List ℕ) (legal : Legal limit done) (x : ℕ) (ns later : List ℕ) (e : numbers 3 (unpack s) ≡ (done ++ (x ∷ ns)) ++ later) where
+module _ (limit : ℕ) (s done : List ℕ) (legal : Legal limit done) (x : ℕ) (pos : 1 ≤ x) (ns later : List ℕ) (e : numbers 3 (unpack s) ≡ (done ++ (x ∷ ns)) ++ later) where
   pub refused-in : length ns ≤ 2 → Positive ns → (good : ℕ) → Passes (isNumber limit x) limit (getD ns 0 0) (getD ns 1 0) good → good < 3
       → contents (fibonacci 3) limit s ≡ refused (faultAt (length done + good))
   refused-in h a good p l =
-      let (xs, y, ys, cut, fine, n, bad) = fault limit x ns h a good p l in
+      let (xs, y, ys, cut, fine, n, bad) = fault limit x pos ns h a good p l in
       let long : length (done ++ xs) ≡ length done + good = omega (arith, length-append done xs) in
       rw (← long) (refused-at limit s (done ++ xs) y (ys ++ later) (all-append (λ n. isNumber limit n ≡ true) done xs legal fine)
       (e ∙ ap (λ (l : List ℕ). (done ++ l) ++ later) cut ∙ simp append-assoc) bad)

@@ -17,14 +17,14 @@ use Rattle.calls.specs.Limits.{maxNumber}
 use Rattle.fibonacci.proofs.Runs.{few-ones}
 use Rattle.fibonacci.proofs.Parse.{parse-is}
 use Rattle.fibonacci.proofs.Numbers.{first-rises, value-append, number-of}
-use Rattle.byte_table.specs.Leaves.{one, withoutTrailing, trailingOnes, after, front, byF, byF1, byF2, moved, rowOfParse, rowAt}
+use Rattle.byte_table.specs.Leaves.{prependOne, withoutTrailing, trailingOnes, parseByte, finishing, value0, value1, value2, moved, rowOfParse, rowAt}
 use Rattle.byte_table.proofs.Moving.{row-moved}
 use Rattle.reading.proofs.Reached.{Settled, settled-runs}
 
 -- ## Bits and the ones at their end
 
 -- a one in front
-one-settled : (b : List Bool) → Settled b → Settled (one b)
+one-settled : (b : List Bool) → Settled b → Settled (prependOne b)
 one-settled [] s = inl refl
 one-settled (a ∷ b) (inl e) = let none : suc (length b) ≡ 0 = ap length e in absurd (omega arith)
 one-settled (a ∷ b) (inr (p, e)) = inr (true ∷ p, ap (λ (l : List Bool). true ∷ l) e)
@@ -39,14 +39,14 @@ without-settled (false ∷ b) = zero-settled (withoutTrailing b) (without-settle
     zero-settled q (inr (p, e)) = inr (false ∷ p, ap (λ (l : List Bool). false ∷ l) e)
 without-settled (true ∷ b) = one-settled (withoutTrailing b) (without-settled b)
 
--- bits are their stem and the ones at their end
+-- bits are those before the ones at their end, and these
 without-ones : (b : List Bool) → (k : ℕ) × (b ≡ withoutTrailing b ++ ones k)
 unfolding withoutTrailing
 without-ones [] = (0, refl)
 without-ones (false ∷ b) = let t = without-ones b in (t .0, ap (λ (l : List Bool). false ∷ l) (t .1))
 without-ones (true ∷ b) = let t = without-ones b in joined (withoutTrailing b) (t .0) (t .1)
   where
-    joined : (q : List Bool) (k : ℕ) → b ≡ q ++ ones k → (k : ℕ) × (true ∷ b ≡ one q ++ ones k)
+    joined : (q : List Bool) (k : ℕ) → b ≡ q ++ ones k → (k : ℕ) × (true ∷ b ≡ prependOne q ++ ones k)
     joined [] k e = (suc k, ap (λ (l : List Bool). true ∷ l) e)
     joined (a ∷ q) k e = (k, ap (λ (l : List Bool). true ∷ l) e)
 
@@ -65,18 +65,18 @@ trailing-few b r ws e =
     let cut : runs 3 (withoutTrailing r ++ ones (trailingOnes r)) ≡ 0 = subst (λ (l : List Bool). runs 3 l ≡ 0) (without-trailing r) free in
     few-ones 3 (trailingOnes r) (omega arith) (omega (arith, settled-runs 3 (withoutTrailing r) (ones (trailingOnes r)) (omega arith) (without-settled r)))
 
--- the first codeword is its front and three ones
-pub front-ones : (b w r : List Bool) (ws : List (List Bool)) → parse 3 b ≡ parsed (w ∷ ws) r → w ≡ front (parsed (w ∷ ws) r) ++ ones 3
-unfolding front
-front-ones b w r ws e =
+-- the first codeword is what finishes it and three ones
+pub finishing-ones : (b w r : List Bool) (ws : List (List Bool)) → parse 3 b ≡ parsed (w ∷ ws) r → w ≡ finishing (parsed (w ∷ ws) r) ++ ones 3
+unfolding finishing
+finishing-ones b w r ws e =
     let c = subst (IsParse 3 b) e (parse-is 3 b (omega arith)) .coded .0 in
     let long : length (c .body) ≡ length w - 3 = omega (arith, ap length (c .ends), length-append (c .body) (ones 3)) in
     c .ends ∙ ap (λ (q : List Bool). q ++ ones 3) (sym (ap (take (length w - 3)) (c .ends) ∙ take-at (c .body) (ones 3) (length w - 3) long))
 
 -- the row that a step looks up
-pub row-after : (run byte : ℕ) → byte < 256 → rowAt (256 * run + byte) ≡ rowOfParse (after run byte)
+pub row-after : (run byte : ℕ) → byte < 256 → rowAt (256 * run + byte) ≡ rowOfParse (parseByte run byte)
 unfolding rowAt
-row-after run byte h = let r : (256 * run + byte) / 256 ≡ run = omega arith in let b : (256 * run + byte) % 256 ≡ byte = omega arith in ap₂ (λ (r b : ℕ). rowOfParse (after r b)) r b
+row-after run byte h = let r : (256 * run + byte) / 256 ≡ run = omega arith in let b : (256 * run + byte) % 256 ≡ byte = omega arith in ap₂ (λ (r b : ℕ). rowOfParse (parseByte r b)) r b
 
 -- the bits from byte i on
 pub bits-next : (s : List ℕ) (i : ℕ) → i < length s → drop (8 * i) (unpack s) ≡ wordBits 8 (getD s i 0) ++ drop (8 * (i + 1)) (unpack s)
@@ -97,18 +97,18 @@ pub pending-none : Pending [] 0 0
 pending-none = record { near = λ h. (refl, unfold value in refl); far = λ h. absurd (omega arith) }
 
 -- all that remains of a byte
-pub pending-left : (q : List Bool) → length q < 37 → Pending q (length q) (byF q)
+pub pending-left : (q : List Bool) → length q < 37 → Pending q (length q) (value0 q)
 pending-left q h = record { near = λ h. (refl, refl); far = λ l. absurd (omega arith) }
 
 -- bits more
 pub pending-more : (body : List Bool) (len val : ℕ) (q : List Bool) → Pending body len val
-    → Pending (body ++ q) (len + length q) (val + moved len (byF q) (byF1 q + byF2 q) (byF1 q))
+    → Pending (body ++ q) (len + length q) (val + moved len (value0 q) (value1 q + value2 q) (value1 q))
 pending-more body len val q p =
     let long : length (body ++ q) ≡ length body + length q = length-append body q in
     record {
       near = λ h.
           let n = p .near (omega arith) in
-          let v : value 3 (1 + length body) q ≡ moved len (byF q) (byF1 q + byF2 q) (byF1 q) = ap (λ (l : ℕ). value 3 (1 + l) q) (n .0) ∙ row-moved len q in
+          let v : value 3 (1 + length body) q ≡ moved len (value0 q) (value1 q + value2 q) (value1 q) = ap (λ (l : ℕ). value 3 (1 + l) q) (n .0) ∙ row-moved len q in
           (omega (arith, long, n .0), omega (arith, n .1, value-append 3 1 body q, v));
       far = λ h. elim (decLe 37 len) [ yes l ↦ omega (arith, p .far l, long) | no l ↦ omega (arith, p .near (omega arith) .0, long) ];
     }

@@ -13,22 +13,22 @@ use Rattle.lists.proofs.Each.{all-append}
 use Rattle.bits.specs.Bits.{wordBits, unpack}
 use Rattle.bits.proofs.Bytes.{unpack-length}
 use Rattle.fibonacci.specs.Code.{ones, first, number}
-use Rattle.fibonacci.specs.Encoding.{Positive, Parse, parsed, rest, IsParse, parse, numbers}
+use Rattle.fibonacci.specs.Encoding.{Positive, Parse, parsed, rest, parse, numbers}
 use Rattle.calls.specs.declared.Refusal.the-variants.{TooManyCodewords, BadRest}
 use Rattle.calls.specs.Calls.{accepted, refused}
 use Rattle.calls.specs.Limits.{isNumber, Legal, maxNumber, maxCount}
 use Rattle.calls.specs.Reading.{contents}
-use Rattle.calls.proofs.Checks.{number-is}
-use Rattle.fibonacci.proofs.Parse.{parse-is}
+use Rattle.calls.proofs.Checks.{number-is, above-number}
 use Rattle.byte_table.specs.declared.Row.{Row}
-use Rattle.byte_table.specs.Leaves.{withoutTrailing, trailingOnes, after, front, inside, byF, byF1, byF2, moved, rowOfParse, rowAt, Small}
+use Rattle.byte_table.specs.Leaves.{withoutTrailing, trailingOnes, parseByte, finishing, insideNumbers, value0, value1, value2, moved, rowOfParse, rowAt, Small}
 use Rattle.reading.specs.Reading.{fibonacci}
+use Rattle.reading.specs.Leaves.{Numbered, isPadding}
 use Rattle.reading.proofs.Reached.{Reached, reached-start, reached-open, reached-shut, reached-numbers, reached-end}
-use Rattle.reading.proofs.Checking.{Padding, padding-is, padding-not, contents-many, contents-past, contents-rest, contents-good, Numbered, numbered-legal, numbered-large}
+use Rattle.reading.proofs.Checking.{padding-is, padding-not, contents-many, contents-past, contents-rest, contents-good, number-positive, coded-positive, numbered-legal, numbered-large}
 use Rattle.table_scan.specs.Leaves.{Passes, faultAt}
 use Rattle.table_scan.proofs.Refusing.{none, refused-in}
-use Rattle.table_scan.proofs.Inside.{few-are, first-three, taken, coded-positive, open-parse, shut-parse}
-use Rattle.table_scan.proofs.Stepping.{without-settled, without-trailing, trailing-few, front-ones, row-after, bits-next, Pending, pending-none, pending-left, pending-more, pending-clamped, pending-near, pending-far}
+use Rattle.table_scan.proofs.Inside.{few-are, first-three, taken, open-parse, shut-parse}
+use Rattle.table_scan.proofs.Stepping.{without-settled, without-trailing, trailing-few, finishing-ones, row-after, bits-next, Pending, pending-none, pending-left, pending-more, pending-clamped, pending-near, pending-far}
 
 -- ## What the loop keeps
 
@@ -86,17 +86,17 @@ module _ {limit : ℕ} {s : List ℕ} {i : ℕ} {row : List ℕ} {count len val 
     pub byte : getD s i 0 < 256
     pub row-is : r ≡ rowAt (state + getD s i 0)
     pub few : Small r
-    pub bitValue : v ≡ moved len (r .x) (r .y) (r .z)
+    pub value-is : v ≡ moved len (r .coef0) (r .coef1) (r .coef2)
 
   module _ {r : Row} {v : ℕ} (step : Step r v) where
     x : List Bool
     x = wordBits 8 (getD s i 0)
 
     p : Parse
-    p = after (k .run) (getD s i 0)
+    p = parseByte (k .run) (getD s i 0)
 
     p-is : p ≡ parse 3 (ones (k .run) ++ x)
-    unfolding p x after
+    unfolding p x parseByte
     p-is = refl
 
     row-of : r ≡ rowOfParse p
@@ -104,13 +104,13 @@ module _ {limit : ℕ} {s : List ℕ} {i : ℕ} {row : List ℕ} {count len val 
     row-of = step .row-is ∙ ap (λ (m : ℕ). rowAt (m + getD s i 0)) (k .at) ∙ row-after (k .run) (getD s i 0) (step .byte)
 
     -- the pending bits with the row's
-    grown : (q : List Bool) → r .len ≡ length q → r .x ≡ byF q → r .y ≡ byF1 q + byF2 q → r .z ≡ byF1 q → Pending (k .body ++ q) (len + r .len) (val + v)
-    grown q l a b c = rw (step .bitValue, l, a, b, c) (pending-more (k .body) len val q (k .pending))
+    grown : (q : List Bool) → r .len ≡ length q → r .coef0 ≡ value0 q → r .coef1 ≡ value1 q + value2 q → r .coef2 ≡ value1 q → Pending (k .body ++ q) (len + r .len) (val + v)
+    grown q l a b c = rw (step .value-is, l, a, b, c) (pending-more (k .body) len val q (k .pending))
 
     -- no codeword ends
     pub walked-open : r .count ≡ 0 → (len' : ℕ) → (len + r .len < 37 → len' ≡ len + r .len) → (37 ≤ len + r .len → len' ≡ 37) → v < 2 ^ 43
-        → Walked limit s (i + 1) row count len' (val + v) (r .next)
-    unfolding rowOfParse front
+        → Walked limit s (i + 1) row count len' (val + v) (256 * r .rest .ones)
+    unfolding rowOfParse finishing
     walked-open none len' short long low =
         let e : p ≡ parsed [] (rest p) = open-parse p (sym (ap (λ (r : Row). r .count) row-of) ∙ none) in
         let f : r ≡ rowOfParse (parsed [] (rest p)) = row-of ∙ ap rowOfParse e in
@@ -129,10 +129,10 @@ module _ {limit : ℕ} {s : List ℕ} {i : ℕ} {row : List ℕ} {count len val 
           room = k .room;
           pending =
               pending-clamped _ (len + r .len) len' _
-              (grown q (ap (λ (r : Row). r .len) f) (ap (λ (r : Row). r .x) f) (ap (λ (r : Row). r .y) f) (ap (λ (r : Row). r .z) f)) short long;
+              (grown q (ap (λ (r : Row). r .len) f) (ap (λ (r : Row). r .coef0) f) (ap (λ (r : Row). r .coef1) f) (ap (λ (r : Row). r .coef2) f)) short long;
           clamped = elim (decLe 37 (len + r .len)) [ yes l ↦ omega (arith, long l) | no l ↦ omega (arith, short (omega arith)) ];
           small = omega (arith, k .small);
-          at = ap (λ (r : Row). r .next) f;
+          at = ap (λ (r : Row). 256 * r .rest .ones) f;
         }
 
     -- a codeword ends
@@ -141,7 +141,7 @@ module _ {limit : ℕ} {s : List ℕ} {i : ℕ} {row : List ℕ} {count len val 
       cut = shut-parse p (λ e. some (ap (λ (r : Row). r .count) row-of ∙ (unfold rowOfParse in e)))
 
       abbrev q : List Bool
-      q = front (parsed (cut .0 ∷ cut .1) (rest p))
+      q = finishing (parsed (cut .0 ∷ cut .1) (rest p))
 
       abbrev ended : List Bool
       ended = k .body ++ cut .0
@@ -156,20 +156,17 @@ module _ {limit : ℕ} {s : List ℕ} {i : ℕ} {row : List ℕ} {count len val 
       parse-cut : parse 3 (ones (k .run) ++ x) ≡ parsed (cut .0 ∷ cut .1) (rest p)
       parse-cut = sym p-is ∙ cut .2
 
-      is-cut : IsParse 3 (ones (k .run) ++ x) (parsed (cut .0 ∷ cut .1) (rest p))
-      is-cut = subst (IsParse 3 (ones (k .run) ++ x)) parse-cut (parse-is 3 (ones (k .run) ++ x) (omega arith))
-
       reached-next : Reached 3 (unpack s) (8 * (i + 1)) (k .words ++ (ended ∷ cut .1)) (withoutTrailing (rest p)) (trailingOnes (rest p))
       reached-next =
           reached-shut (k .reached) x (8 * (i + 1)) (unfold x in bits-next s i (step .more)) (withoutTrailing (rest p)) (trailingOnes (rest p)) (without-settled (rest p)) (trailing-few _ (rest p) _ parse-cut)
           (cut .0) (cut .1) (parse-cut ∙ ap (parsed (cut .0 ∷ cut .1)) (without-trailing (rest p)))
 
       ended-is : ended ≡ (k .body ++ q) ++ ones 3
-      ended-is = ap (λ (w : List Bool). k .body ++ w) (front-ones _ (cut .0) (rest p) (cut .1) parse-cut) ∙ sym (append-assoc (k .body) q (ones 3))
+      ended-is = ap (λ (w : List Bool). k .body ++ w) (finishing-ones _ (cut .0) (rest p) (cut .1) parse-cut) ∙ sym (append-assoc (k .body) q (ones 3))
 
       pending-ended : Pending (k .body ++ q) (len + r .len) (val + v)
       unfolding rowOfParse
-      pending-ended = grown q (ap (λ (r : Row). r .len) row-cut) (ap (λ (r : Row). r .x) row-cut) (ap (λ (r : Row). r .y) row-cut) (ap (λ (r : Row). r .z) row-cut)
+      pending-ended = grown q (ap (λ (r : Row). r .len) row-cut) (ap (λ (r : Row). r .coef0) row-cut) (ap (λ (r : Row). r .coef1) row-cut) (ap (λ (r : Row). r .coef2) row-cut)
 
       ended-near : first 3 (len + r .len) ≤ maxNumber → number 3 ended ≡ first 3 (len + r .len) + (val + v)
       ended-near g = ap (number 3) ended-is ∙ pending-near _ _ _ pending-ended g
@@ -182,18 +179,21 @@ module _ {limit : ℕ} {s : List ℕ} {i : ℕ} {row : List ℕ} {count len val 
       count-is = ap (λ (r : Row). r .count) row-cut ∙ ap suc (sym (length-map (cut .1) (number 3)))
 
       within-few : length within ≤ 2
-      within-few = omega (arith, count-is, step .few .0)
+      within-few = omega (arith, count-is, step .few .count)
 
       second-is : r .second ≡ getD within 0 0
-      unfolding rowOfParse inside
+      unfolding rowOfParse insideNumbers
       second-is = ap (λ (r : Row). r .second) row-cut
 
       third-is : r .third ≡ getD within 1 0
-      unfolding rowOfParse inside
+      unfolding rowOfParse insideNumbers
       third-is = ap (λ (r : Row). r .third) row-cut
 
       within-pos : Positive within
-      within-pos = coded-positive (cut .1) (is-cut .coded .1)
+      within-pos = coded-positive 3 (cut .1)
+
+      ended-pos : 1 ≤ number 3 ended
+      ended-pos = number-positive 3 ended
 
       next-numbers : map (number 3) (k .words ++ (ended ∷ cut .1)) ≡ done ++ (number 3 ended ∷ within)
       next-numbers = map-append (number 3) (k .words) (ended ∷ cut .1)
@@ -215,20 +215,20 @@ module _ {limit : ℕ} {s : List ℕ} {i : ℕ} {row : List ℕ} {count len val 
           where
             by : (t : Bool) → isNumber limit n ≡ t → isNumber limit n ≡ isNumber limit (number 3 ended)
             by true e = ap (isNumber limit) (numbered-legal 3 _ _ n is (number 3 ended) ended-near ended-far limit top e)
-            by false e = e ∙ sym (numbered-large 3 _ _ n is (number 3 ended) ended-near ended-far limit top e)
+            by false e = e ∙ sym (above-number limit (number 3 ended) ended-pos (numbered-large 3 _ _ n is (number 3 ended) ended-near ended-far limit top e))
 
         passes-within : Passes (isNumber limit (number 3 ended)) limit (getD within 0 0) (getD within 1 0) good
         passes-within = rw (← alike, ← second-is, ← third-is) passes
 
         pub walked-fault : good < 3 → contents (fibonacci 3) limit s ≡ refused (faultAt (count + good))
         walked-fault l =
-            refused-in limit s done (k .legal) (number 3 ended) within (all-numbers .0) (all-numbers .1) within-few within-pos good passes-within l
+            refused-in limit s done (k .legal) (number 3 ended) ended-pos within (all-numbers .0) (all-numbers .1) within-few within-pos good passes-within l
             ∙ ap (λ (c : ℕ). refused (faultAt (c + good))) done-long
 
         -- all pass
         module _ (all : 3 ≤ good) where
           legal : Legal limit (number 3 ended ∷ within)
-          legal = none limit (number 3 ended) within within-few within-pos good passes-within all
+          legal = none limit (number 3 ended) ended-pos within within-few within-pos good passes-within all
 
           n-is : n ≡ number 3 ended
           n-is = numbered-legal 3 _ _ n is (number 3 ended) ended-near ended-far limit top (alike ∙ legal .0)
@@ -254,12 +254,12 @@ module _ {limit : ℕ} {s : List ℕ} {i : ℕ} {row : List ℕ} {count len val 
 
           kept-is : count + r .count ≤ maxCount → take (count + r .count) (sets row count new) ≡ done ++ (number 3 ended ∷ within)
           kept-is f =
-              taken row new count (r .count) (omega (arith, k .room, count-is)) (step .few .0)
+              taken row new count (r .count) (omega (arith, k .room, count-is)) (step .few .count)
               ∙ ap₂ _++_ (k .stored) (ap (λ (c : ℕ). take c new) count-is
               ∙ first-three n-is second-is third-is (length within) ∙ ap (λ (l : List ℕ). number 3 ended ∷ l) (few-are within within-few))
 
           pub walked-shut : count + r .count ≤ maxCount
-              → Walked limit s (i + 1) (sets row count (n ∷ r .second ∷ r .third ∷ [])) (count + r .count) (r .left) (r .val) (r .next)
+              → Walked limit s (i + 1) (sets row count (n ∷ r .second ∷ r .third ∷ [])) (count + r .count) (r .rest .len) (r .rest .value) (256 * r .rest .ones)
           unfolding rowOfParse
           walked-shut f =
               record {
@@ -273,12 +273,12 @@ module _ {limit : ℕ} {s : List ℕ} {i : ℕ} {row : List ℕ} {count len val 
                 stored = kept-is f ∙ sym next-numbers;
                 room = walked-room;
                 pending =
-                    subst (λ (l : ℕ). Pending (withoutTrailing (rest p)) l (r .val)) (sym (ap (λ (r : Row). r .left) row-cut))
-                    (subst (λ (v : ℕ). Pending (withoutTrailing (rest p)) (length (withoutTrailing (rest p))) v) (sym (ap (λ (r : Row). r .val) row-cut))
-                    (pending-left (withoutTrailing (rest p)) (omega (arith, ap (λ (r : Row). r .left) row-cut, step .few .7))));
-                clamped = omega (arith, step .few .7);
-                small = omega (arith, step .few .8);
-                at = ap (λ (r : Row). r .next) row-cut;
+                    subst (λ (l : ℕ). Pending (withoutTrailing (rest p)) l (r .rest .value)) (sym (ap (λ (r : Row). r .rest .len) row-cut))
+                    (subst (λ (v : ℕ). Pending (withoutTrailing (rest p)) (length (withoutTrailing (rest p))) v) (sym (ap (λ (r : Row). r .rest .value) row-cut))
+                    (pending-left (withoutTrailing (rest p)) (omega (arith, ap (λ (r : Row). r .rest .len) row-cut, step .few .rest-len))));
+                clamped = omega (arith, step .few .rest-len);
+                small = omega (arith, step .few .rest-value);
+                at = ap (λ (r : Row). 256 * r .rest .ones) row-cut;
               }
 
   -- the bytes are all read, and the pending bits are the rest
@@ -290,15 +290,15 @@ module _ {limit : ℕ} {s : List ℕ} {i : ℕ} {row : List ℕ} {count len val 
     far l = elim (decLe 37 len) [ yes f ↦ omega (arith, k .pending .far f) | no f ↦ omega (arith, k .pending .near (omega arith) .0) ]
 
     -- there are no ones exactly where the state is 0
-    state-none : Padding len val state ≡ Padding len val (k .run)
+    state-none : isPadding len val state ≡ isPadding len val (k .run)
     state-none = ap (λ (t : Bool). ltb len 8 && (eqb val 0 && t)) (state-zero (k .run) (k .at))
 
-    pub walked-padding : Padding len val state ≡ true → (contents (fibonacci 3) limit s ≡ accepted done) × (take count row ≡ done) × (length done ≡ count)
+    pub walked-padding : isPadding len val state ≡ true → (contents (fibonacci 3) limit s ≡ accepted done) × (take count row ≡ done) × (length done ≡ count)
     walked-padding e =
         let t = padding-is 3 (k .body) len val (k .run) (omega arith) (λ l. k .pending .near (omega arith)) far (sym state-none ∙ e) in
         (contents-good limit 3 s done (k .legal) (k .words) _ rest-is refl (omega (arith, done-long, k .most)) (t .0) (t .1), k .stored, done-long)
 
-    pub walked-rest : Padding len val state ≡ false → contents (fibonacci 3) limit s ≡ refused BadRest
+    pub walked-rest : isPadding len val state ≡ false → contents (fibonacci 3) limit s ≡ refused BadRest
     walked-rest e =
         contents-rest limit 3 s done (k .legal) (k .words) _ rest-is refl (omega (arith, done-long, k .most))
         (padding-not 3 (k .body) len val (k .run) (omega arith) (λ l. k .pending .near (omega arith)) far (sym state-none ∙ e))

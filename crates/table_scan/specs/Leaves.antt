@@ -1,4 +1,4 @@
--- What the scan by bytes answers and needs.
+-- What the scan by bytes is given, and what it leaves; the checks of the numbers that end in a byte.
 use mathlib.Core.Path.{_≡_}
 use mathlib.Core.Bool.{Bool, true, false}
 use mathlib.Core.List.{List}
@@ -9,10 +9,10 @@ use Rattle.fibonacci.specs.Tables.{Firsts}
 use Rattle.calls.specs.declared.Refusal.{Refusal}
 use Rattle.calls.specs.declared.Refusal.the-variants.{TooManyCodewords, TooLarge}
 use Rattle.calls.specs.declared.CountAnswer.{CountAnswer}
-use Rattle.calls.specs.Calls.{Outcome, accepted, andThen, countOutcome}
-use Rattle.calls.specs.Limits.{maxCount}
+use Rattle.calls.specs.Calls.{Outcome}
+use Rattle.calls.specs.Limits.{maxNumber, maxCount, maxBytes}
 use Rattle.byte_table.specs.Leaves.{headWords, tailWords, positionWords}
-use Rattle.reading.specs.Answers.{Begins}
+use Rattle.reading.specs.Leaves.{Scanned}
 
 -- The tables that are handed down
 pub record Tables (heads tails positions firsts : List ℕ) : Type 0 where
@@ -21,9 +21,14 @@ pub record Tables (heads tails positions firsts : List ℕ) : Type 0 where
   pub positions-are : positions ≡ positionWords
   pub firsts-are : Firsts 3 firsts
 
--- A scan that finds this answers how many numbers the row has, and its list begins with the row
-abbrev pub Scanned : Outcome (List ℕ) → CountAnswer → List ℕ → Type 0
-Scanned found a list = (countOutcome a ≡ andThen found (λ row. accepted (length row))) × Begins found list × (length list ≡ 4098)
+-- What the scan is given: the tables, an encoding that is not too long, a limit, and a list with room for all that it may store
+abbrev pub ScanInput : List ℕ → List ℕ → List ℕ → List ℕ → List ℕ → ℕ → List ℕ → Type 0
+ScanInput heads tails positions firsts s limit list =
+    Tables heads tails positions firsts × (length s ≤ maxBytes) × (limit ≤ maxNumber) × (length list ≡ 4098)
+
+-- What it leaves: its answer, its list, and that as long as it was
+abbrev pub ScanResult : Outcome (List ℕ) → CountAnswer → List ℕ → Type 0
+ScanResult found a list = Scanned found a list × (length list ≡ 4098)
 
 -- So many of the numbers that a byte ends pass their check before the first that fails: by whether the first is legal, the limit, and the two after it. These
 -- are 0 only where they are not there, so the limit alone decides

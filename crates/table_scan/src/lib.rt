@@ -4,17 +4,17 @@ ghost use mathlib.Core.List.{_∷_, []};
 ghost use Prim.Native.Nat.{_≤_, _<_};
 ghost use lib.ListN.{length};
 ghost use lib.Seq.{sets};
-ghost use Rattle.calls.specs.Limits.{isNumber, maxNumber, maxBytes};
+ghost use Rattle.calls.specs.Limits.{isNumber, maxNumber};
 ghost use Rattle.calls.specs.Reading.{contents};
 ghost use Rattle.reading.specs.Reading.{fibonacci};
-ghost use Rattle.table_scan.specs.Leaves.{Tables, Scanned, Passes, faultAt};
+ghost use Rattle.table_scan.specs.Leaves.{ScanInput, ScanResult, Passes, faultAt};
 use calls::CountAnswer;
 use calls::Refusal;
 
 // The first number that a byte ends goes to place 4,095 at most, and two more may follow it.
 pub const ROOM: usize = 4098;
 
-// Three numbers from element i on.
+// Three numbers from element i on. Requires: a place of a row, and a legal first number, which `walk` shows.
 fn put(row: &mut [u32; ROOM], i: usize, first: u64, second: u32, third: u32)
     requires { ⌜ (i < 4096) × (length (now row) ≡ 4098) × (first ≤ maxNumber) ⌝ }
     ensures { λ r. ⌜ now (row .exit) ≡ sets (now (row .entry)) i (first ∷ second ∷ third ∷ []) ⌝ }
@@ -59,7 +59,8 @@ fn fault(place: usize) -> Refusal
 }
 
 // The scan after the check of the length, byte by byte. Pending are `len` bits up to a zero, whose value is `val`, or at least so many where `len` is 37, and
-// then as many ones as `state` has 256s: the rows for the next byte begin there. The table decoder takes the tables and checks the length before.
+// then as many ones as `state` has 256s: the rows for the next byte begin there. Requires: the tables, an encoding that is not too long, and a limit of at most
+// 4,294,967,295, which the table decoder takes, checks and shows.
 pub fn walk(
     heads: &[u32; 768],
     tails: &[u32; 768],
@@ -69,8 +70,8 @@ pub fn walk(
     limit: u64,
     row: &mut [u32; ROOM],
 ) -> CountAnswer
-    requires { ⌜ Tables (now heads) (now tails) (now positions) (now firsts) × (length (now s) ≤ maxBytes) × (limit ≤ maxNumber) × (length (now row) ≡ 4098) ⌝ }
-    ensures { λ r. ⌜ Scanned (contents (fibonacci 3) limit (now (s .entry))) r (now (row .exit)) ⌝ }
+    requires { ⌜ ScanInput (now heads) (now tails) (now positions) (now firsts) (now s) limit (now row) ⌝ }
+    ensures { λ r. ⌜ ScanResult (contents (fibonacci 3) limit (now (s .entry))) r (now (row .exit)) ⌝ }
 {
     let mut count: usize = 0;
     let mut len: usize = 0;
@@ -79,8 +80,8 @@ pub fn walk(
     for i in 0..s.len() {
         let r = byte_table::look_up(heads, tails, state + s[i] as usize);
         let end = len + r.len;
-        let sum = val + byte_table::moved(positions, len, r.x, r.y, r.z);
-        state = r.next;
+        let sum = val + byte_table::moved(positions, len, r.coef0, r.coef1, r.coef2);
+        state = 256 * r.rest.ones;
         if r.count == 0 {
             len = clamp_length(end);
             val = sum;
@@ -98,8 +99,8 @@ pub fn walk(
             if count > calls::MAX_COUNT {
                 return CountAnswer::Refused(Refusal::TooManyCodewords);
             }
-            len = r.left;
-            val = r.val;
+            len = r.rest.len;
+            val = r.rest.value;
         }
     }
     if !reading::is_padding(len, val, state) {

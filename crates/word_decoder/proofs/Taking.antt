@@ -2,7 +2,7 @@
 use mathlib.Core.Path.{_≡_, refl, sym, ap, ap₂, subst, _∙_}
 use mathlib.Core.Bool.{Bool, true, false, true≢false}
 use mathlib.Core.List.{List, [], _∷_, _++_, append-assoc, append-nil, flatten}
-use Prim.Native.Nat.{ℕ, _+_, _-_, _*_, _%_, _^_, _≤_, _<_}
+use Prim.Native.Nat.{ℕ, _+_, _-_, _*_, _/_, _%_, _^_, _≤_, _<_}
 use native.Mathlib.Omega.{arith}
 use native.Mathlib.Decide.{decLe}
 use lib.ListN.{length, getD, take, drop, replicate, length-append, length-drop, take-append-drop, replicate-append-replicate}
@@ -10,17 +10,20 @@ use lib.Seq.{drop-drop, drop-append-le, take-append-le, take-take, length-take-l
 use lib.Count.{leadingZeros}
 use Rattle.lists.proofs.Each.{all-append}
 use Rattle.bits.specs.Bits.{wordBits}
-use Rattle.fibonacci.specs.Code.{value, first, number, codeword, Codeword}
+use Rattle.bits.proofs.Words.{words-zero}
+use Rattle.fibonacci.specs.Code.{runs, value, first, number, codeword, Codeword}
 use Rattle.fibonacci.specs.Encoding.{rowBits}
 use Rattle.calls.proofs.Checks.{number-is, is-number}
+use Rattle.calls.proofs.Finished.{illegal-above}
 use Rattle.calls.specs.Limits.{isNumber, maxNumber, Order}
 use Rattle.fibonacci.proofs.Lookup as lookup
-use Rattle.fibonacci.proofs.Numbers.{codeword-number, number-of}
+use Rattle.fibonacci.proofs.Numbers.{first-pos, codeword-number, number-of}
 use Rattle.fibonacci.proofs.Rows.{bits-append}
-use Rattle.word_windows.specs.Leaves.{ExactIfLegal, runStarts, WindowAt}
+use Rattle.word_windows.specs.declared.Window.{Window}
+use Rattle.word_windows.specs.Leaves.{bodyNumber, ExactIfLegal, MarksRuns, runStarts, WindowAt, LoadedWindow}
 use Rattle.word_windows.proofs.Loading.{drop-take}
-use Rattle.word_decoder.specs.Leaves.{Taken}
-use Rattle.word_windows.proofs.Starts.{up, words-up, zeros-default, starts-zeros, starts-up, mark-one, mark-none, first-within, first-ends, first-coded, first-zero}
+use Rattle.word_decoder.specs.Leaves.{Taken, Stopped, full, short, pending, large}
+use Rattle.word_windows.proofs.Starts.{up, words-up, zeros-default, starts-zeros, starts-runs, starts-up, mark-one, mark-none, first-within, first-ends, first-coded, first-zero}
 
 -- ## The first codeword of a word
 
@@ -52,21 +55,22 @@ module _ {b : List Bool} {k w : ℕ} (a : WindowAt b k w) where
             (replicate-append-replicate (a .others) t false);
       }
 
+  -- the marks are those of its bits
+  marked : (m y : ℕ) → 1 ≤ m → wordBits 64 y ≡ runStarts m (wordBits 64 w) → (i : ℕ) → getD (wordBits 64 y) i false ≡ getD (runStarts m windowBits) i false
+  marked m y pos marks i =
+      ap (λ (l : List Bool). getD l i false) (marks ∙ ap (runStarts m) (a .bits) ∙ starts-zeros m windowBits (a .others) pos)
+      ∙ zeros-default (runStarts m windowBits) (a .others) i
+
   module _ (m y : ℕ) (pos : 1 ≤ m) (marks : wordBits 64 y ≡ runStarts m (wordBits 64 w)) (some : 1 ≤ y) (low : y < 2 ^ 64) where
     -- how many bits stand before the last ones of the first codeword
     abbrev body : ℕ
     body = leadingZeros 64 y
 
-    marked : (i : ℕ) → getD (wordBits 64 y) i false ≡ getD (runStarts m windowBits) i false
-    marked i =
-        ap (λ (l : List Bool). getD l i false) (marks ∙ ap (runStarts m) (a .bits) ∙ starts-zeros m windowBits (a .others) pos)
-        ∙ zeros-default (runStarts m windowBits) (a .others) i
-
     one : getD (runStarts m windowBits) body false ≡ true
-    one = sym (marked body) ∙ mark-one 64 y some low
+    one = sym (marked m y pos marks body) ∙ mark-one 64 y some low
 
     none : (i : ℕ) → i < body → getD (runStarts m windowBits) i false ≡ false
-    none i h = sym (marked i) ∙ mark-none 64 y some low i h
+    none i h = sym (marked m y pos marks i) ∙ mark-none 64 y some low i h
 
     pub codeword-within : body + m ≤ a .some
     codeword-within = omega (arith, first-within m pos windowBits body one none, windowBits-length)
@@ -84,7 +88,7 @@ module _ {b : List Bool} {k w : ℕ} (a : WindowAt b k w) where
     word-zero h =
         ap (λ (l : List Bool). getD l (body - 1) false) (a .bits) ∙ zeros-default windowBits (a .others) (body - 1) ∙ first-zero m pos windowBits body one none h
 
-    pub word-number : number m word ≡ first m body + value m 1 (take body (wordBits 64 w))
+    pub word-number : number m word ≡ bodyNumber m w body
     word-number =
         let p : take body windowBits ≡ take body (wordBits 64 w) = take-take body (a .some) (drop k b) (omega (arith, codeword-within)) ∙ sym (windowBits-take body (omega (arith, codeword-within))) in
         let l : length (take body windowBits) ≡ body = length-take-le body windowBits (omega (arith, codeword-within, windowBits-length)) in
@@ -117,21 +121,48 @@ taken-more m limit b k e row t n p r h c is l =
     last : rowBits m (n ∷ []) ≡ take t (drop e b)
     last = alone ∙ ap (codeword m) is ∙ codeword-number m (take t (drop e b)) p c .0
 
+-- ## Where words take no more
+
+-- no codeword ends in the window
+pub stopped-window : {m limit : ℕ} {b : List Bool} {bit count most : ℕ} (w : Window) → 1 ≤ m → LoadedWindow m b bit w → w .starts ≡ 0
+    → Stopped m limit b bit count most
+stopped-window {m} {limit} {b} {bit} {count} {most} w pos a none =
+    elim (decLe (8 * (bit / 8) + 64) (length b)) [
+      | no h ↦ short (omega arith)
+      | yes h ↦
+          pending (ap (λ (n : ℕ). runs m (take n (drop bit b))) (sym (a .whole h)) ∙ starts-runs m windowed (λ i. sym (at i) ∙ zero-bits i))
+    ]
+  where
+    windowed : List Bool
+    windowed = take (a .window .some) (drop bit b)
+
+    at : (i : ℕ) → getD (wordBits 64 (w .starts)) i false ≡ getD (runStarts m windowed) i false
+    at i = marked (a .window) m (w .starts) pos (a .marked .0) i
+
+    zero-bits : (i : ℕ) → getD (wordBits 64 (w .starts)) i false ≡ false
+    zero-bits i = rw (none, words-zero 64) (zeros-default [] 64 i)
+
+-- where not as many were taken as may be, it is not for how many they are
+pub stopped-before : {m limit : ℕ} {b : List Bool} {bit count most : ℕ} (count' most' : ℕ) → count < most → Stopped m limit b bit count most
+    → Stopped m limit b bit count' most'
+stopped-before count' most' h (full e) = absurd (omega arith)
+stopped-before count' most' h (short e) = short e
+stopped-before count' most' h (pending e) = pending e
+stopped-before count' most' h (large size w e) = large size w e
+
 -- ## What a loop keeps
 
 -- From bit k₀ on the numbers `row` were taken, so many; the next bits are in a word, and where m ones begin in it is marked
 pub record Going (m limit : ℕ) (b : List Bool) (k₀ : ℕ) (row : List ℕ) (bit count left marks : ℕ) : Type 0 where
   pub taken : Taken m limit b k₀ bit row
   pub many : length row ≡ count
-  pub window_at : WindowAt b bit left
-  pub marked : wordBits 64 marks ≡ runStarts m (wordBits 64 left)
-  pub low : marks < 2 ^ 64
+  pub window : WindowAt b bit left
+  pub marked : MarksRuns m left marks
 
 module _ {m limit : ℕ} {b : List Bool} {k₀ : ℕ} {row : List ℕ} {bit count left marks : ℕ} (g : Going m limit b k₀ row bit count left marks) where
   -- the word is filled anew
-  pub going-filled : (left' marks' : ℕ) → WindowAt b bit left' → wordBits 64 marks' ≡ runStarts m (wordBits 64 left') → marks' < 2 ^ 64
-      → Going m limit b k₀ row bit count left' marks'
-  going-filled left' marks' a e l = record { taken = g .taken; many = g .many; window_at = a; marked = e; low = l }
+  pub going-filled : (w : Window) → LoadedWindow m b bit w → Going m limit b k₀ row bit count (w .left) (w .starts)
+  going-filled w a = record { taken = g .taken; many = g .many; window = a .window; marked = a .marked }
 
   -- a codeword ends in it, and n was found for its number
   module _ (o : Order m) (some : 1 ≤ marks) where
@@ -139,16 +170,30 @@ module _ {m limit : ℕ} {b : List Bool} {k₀ : ℕ} {row : List ℕ} {bit coun
     len = leadingZeros 64 marks
 
     pub going-zero : 1 ≤ len → getD (wordBits 64 left) (len - 1) false ≡ false
-    going-zero = word-zero (g .window_at) m marks (omega arith) (g .marked) some (g .low)
+    going-zero = word-zero (g .window) m marks (omega arith) (g .marked .0) some (g .marked .1)
 
     pub going-within : bit + (len + m) ≤ length b
-    going-within = omega (arith, codeword-within (g .window_at) m marks (omega arith) (g .marked) some (g .low), g .window_at .within)
+    going-within = omega (arith, codeword-within (g .window) m marks (omega arith) (g .marked .0) some (g .marked .1), g .window .within)
 
-    module _ (n : ℕ) (is : ExactIfLegal (first m len + value m 1 (take len (wordBits 64 left))) n) (legal : isNumber limit n ≡ true) (top : limit ≤ maxNumber) where
-      same : (n ≡ first m len + value m 1 (take len (wordBits 64 left))) × (first m len ≤ maxNumber)
+    -- the number is not legal
+    pub going-large : (most n : ℕ) → ExactIfLegal (bodyNumber m left len) n → isNumber limit n ≡ false → limit ≤ maxNumber
+        → Stopped m limit b bit count most
+    going-large most n is bad top =
+        let x : ℕ = bodyNumber m left len in
+        let above : limit < x =
+        elim (decLe x maxNumber) [
+          | yes h ↦ omega (arith, is .0 h, illegal-above limit n (omega (arith, is .0 h, first-pos m len)) bad)
+          | no h ↦ omega arith
+        ] in
+        large (len + m) (word-coded (g .window) m marks (omega arith) (g .marked .0) some (g .marked .1))
+        (omega (arith, word-number (g .window) m marks (omega arith) (g .marked .0) some (g .marked .1)))
+
+    -- or it is
+    module _ (n : ℕ) (is : ExactIfLegal (bodyNumber m left len) n) (legal : isNumber limit n ≡ true) (top : limit ≤ maxNumber) where
+      same : (n ≡ bodyNumber m left len) × (first m len ≤ maxNumber)
       same =
           let l = number-is limit n legal in
-          let x : ℕ = first m len + value m 1 (take len (wordBits 64 left)) in
+          let x : ℕ = bodyNumber m left len in
           elim (decLe x maxNumber) [
             | yes h ↦ (is .0 h, omega arith)
             | no h ↦ absurd (true≢false (sym (is-number maxNumber n (l .0) (omega (arith, l .1))) ∙ is .1 (omega arith)))
@@ -164,12 +209,13 @@ module _ {m limit : ℕ} {b : List Bool} {k₀ : ℕ} {row : List ℕ} {bit coun
           let fits : t ≤ 64 = omega (arith, going-short) in
           record {
             taken =
-                taken-more m limit b k₀ bit row t n pos (g .taken) going-within (word-coded (g .window_at) m marks pos (g .marked) some (g .low))
-                (same .0 ∙ sym (word-number (g .window_at) m marks pos (g .marked) some (g .low))) legal;
+                taken-more m limit b k₀ bit row t n pos (g .taken) going-within (word-coded (g .window) m marks pos (g .marked .0) some (g .marked .1))
+                (same .0 ∙ sym (word-number (g .window) m marks pos (g .marked .0) some (g .marked .1))) legal;
             many = omega (arith, g .many, length-append row (n ∷ []));
-            window_at = window-up (g .window_at) t (codeword-within (g .window_at) m marks pos (g .marked) some (g .low));
-            marked =
-                words-up 64 marks t fits ∙ ap (up t) (g .marked) ∙ sym (starts-up m t (wordBits 64 left) pos)
-                ∙ ap (runStarts m) (sym (words-up 64 left t fits));
-            low = omega arith;
+            window = window-up (g .window) t (codeword-within (g .window) m marks pos (g .marked .0) some (g .marked .1));
+            marked = (
+              words-up 64 marks t fits ∙ ap (up t) (g .marked .0) ∙ sym (starts-up m t (wordBits 64 left) pos)
+                  ∙ ap (runStarts m) (sym (words-up 64 left t fits)),
+              omega arith,
+            );
           }

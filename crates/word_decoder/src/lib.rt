@@ -1,12 +1,11 @@
 // Codewords of order 2 to 6 taken out of an encoding by words of 64 bits.
 ghost use mathlib.Core.Path.{_≡_};
-ghost use Prim.Native.Nat.{_*_, _≤_, _<_};
+ghost use Prim.Native.Nat.{_≤_, _<_};
 ghost use lib.ListN.{length};
 ghost use Rattle.bits.specs.Bits.{unpack};
-ghost use Rattle.calls.specs.Limits.{maxNumber, maxCount, maxBytes};
+ghost use Rattle.calls.specs.Limits.{maxNumber, maxBytes};
 ghost use Rattle.fibonacci.specs.Tables.{Firsts};
-ghost use Rattle.digit_tables.specs.Leaves.{byteValues};
-ghost use Rattle.word_decoder.specs.Leaves.{Summed, Spanned, StoredRow};
+ghost use Rattle.word_decoder.specs.Leaves.{SegmentInput, Summed, EndsSegment, CountsInSpan, SpanTaken, RowTaken};
 
 // How far codewords were taken: up to which bit, and how many.
 pub struct Progress {
@@ -32,7 +31,8 @@ pub struct SpanProgress {
 }
 
 // Takes codewords from a bit on, as long as their numbers are legal, each ends in the next word, and there are fewer than `most`: how far it came, and the
-// sum of the numbers that it took. What stands then is for the scan by bits to judge. (Called in one place, it is compiled into it.)
+// sum of the numbers that it took. What stands then is for the scan by bits to judge. (Called in one place, it is compiled into it.) Requires: the tables of
+// the order, an encoding and a limit as `take_span` has them, and a part that ends within a row, which `take_span` shows.
 fn take_sum(
     values: &[u32; 1536],
     firsts: &[u32; 47],
@@ -42,7 +42,7 @@ fn take_sum(
     from: usize,
     most: usize,
 ) -> Segment
-    requires { ⌜ Firsts order (now firsts) × (now values ≡ byteValues order) × (length (now s) ≤ maxBytes) × (limit ≤ maxNumber) × (most ≤ maxCount) × (from ≤ 8 * length (now s)) ⌝ }
+    requires { ⌜ SegmentInput order (now firsts) (now values) (now s) limit most from ⌝ }
     ensures { λ r. ⌜ Summed order limit (unpack (now (s .entry))) from most r ⌝ }
 {
     let mut bit = from;
@@ -80,7 +80,7 @@ fn take_sum(
 
 // Where the part of a row ends that a place is in: before a span, in it, or behind it.
 fn segment_end(from: usize, to: usize, place: usize) -> usize
-    ensures { λ r. ⌜ (r ≤ maxCount) × (place < maxCount → place < r) × (place < from → r ≤ from) × (from ≤ place → place < to → r ≤ to) ⌝ }
+    ensures { λ r. ⌜ EndsSegment from to place r ⌝ }
 {
     if place < from {
         return calls::least(from, calls::MAX_COUNT);
@@ -94,7 +94,7 @@ fn segment_end(from: usize, to: usize, place: usize) -> usize
 
 // A number or the sum of a part of a row that begins at a place, as far as it counts: all of it in the span, else nothing.
 pub fn count_in_span(sum: u64, from: usize, to: usize, place: usize) -> u64
-    ensures { λ r. ⌜ (from ≤ place → place < to → r ≡ sum) × (place < from → r ≡ 0) × (to ≤ place → r ≡ 0) × (r ≤ sum) ⌝ }
+    ensures { λ r. ⌜ CountsInSpan sum from to place r ⌝ }
 {
     if place < from {
         return 0;
@@ -109,8 +109,9 @@ pub fn start_of_place(start: usize, place: usize, count: usize, bit: usize) -> u
     if count <= place { bit } else { start }
 }
 
-// Takes codewords from the start of an encoding on, and sums those from one place up to but without another. It goes in parts, so that no number is tested
-// for its place. The decoder checks the order and the length before, and goes on by bits.
+// Takes codewords from the start of an encoding on, as far as words can, and sums those from one place up to but without another. It goes in parts, so that no
+// number is tested for its place. Requires: the first numbers of an order in use, an encoding that is not too long, and a limit of at most 4,294,967,295, which
+// the decoder checks or shows.
 pub fn take_span(
     firsts: &[u32; 47],
     order: usize,
@@ -120,7 +121,7 @@ pub fn take_span(
     to: usize,
 ) -> SpanProgress
     requires { ⌜ Firsts order (now firsts) × (length (now s) ≤ maxBytes) × (limit ≤ maxNumber) ⌝ }
-    ensures { λ r. ⌜ Spanned order limit from to (unpack (now (s .entry))) r ⌝ }
+    ensures { λ r. ⌜ SpanTaken order limit from to (unpack (now (s .entry))) r ⌝ }
 {
     let mut values: [u32; 1536] = [0; 1536];
     digit_tables::fill(&mut values, order);
@@ -151,11 +152,11 @@ pub fn take_span(
     }
 }
 
-// Takes codewords from the start of an encoding on, and stores their numbers, as far as the list has room. The decoder checks the order and the length
-// before, and goes on by bits.
+// Takes codewords from the start of an encoding on, as far as words can, and stores their numbers, as far as the list has room. Requires: the first numbers
+// of an order in use, an encoding that is not too long, and a limit of at most 4,294,967,295, which the decoder checks or shows.
 pub fn take_row(firsts: &[u32; 47], order: usize, s: &[u8], limit: u64, row: &mut [u32]) -> Progress
     requires { ⌜ Firsts order (now firsts) × (length (now s) ≤ maxBytes) × (limit ≤ maxNumber) ⌝ }
-    ensures { λ r. ⌜ StoredRow order limit (unpack (now (s .entry))) (now (row .entry)) (now (row .exit)) r ⌝ }
+    ensures { λ r. ⌜ RowTaken order limit (unpack (now (s .entry))) (now (row .entry)) (now (row .exit)) r ⌝ }
 {
     let mut values: [u32; 1536] = [0; 1536];
     digit_tables::fill(&mut values, order);

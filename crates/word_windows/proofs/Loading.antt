@@ -24,21 +24,22 @@ drop-take (suc t) (suc n) (x ∷ l) = let e : n - t ≡ suc n - suc t = omega ar
 pub window-none : (b : List Bool) (k : ℕ) → k ≤ length b → WindowAt b k 0
 window-none b k h = record { some = 0; others = 64; all = refl; within = omega arith; bits = words-zero 64 }
 
--- eight bytes from the one with bit k, moved up so that bit k is on top
-pub window-load : (s : List ℕ) (k w : ℕ) → k / 8 + 8 ≤ length s → wordBits 64 w ≡ unpack (take 8 (drop (k / 8) s))
-    → WindowAt (unpack s) k (w * 2 ^ (k % 8) % 2 ^ 64)
-window-load s k w h e =
-    let o : ℕ = k % 8 in
-    let at : 8 * (k / 8) + o ≡ k = omega arith in
-    record {
-      some = 64 - o;
-      others = o;
-      all = omega arith;
-      within = omega (arith, unpack-length s);
-      bits =
-          words-up 64 w o (omega arith)
-          ∙ ap (λ (l : List Bool). l ++ replicate o false)
-          (ap (drop o) (e ∙ unpack-take (drop (k / 8) s) 8 ∙ ap (take 64) (unpack-drop s (k / 8)))
-          ∙ drop-take o 64 (drop (8 * (k / 8)) (unpack s))
-          ∙ ap (take (64 - o)) (drop-drop o (8 * (k / 8)) (unpack s) ∙ ap (λ (n : ℕ). drop n (unpack s)) at));
-    }
+-- eight bytes from the one with bit k, moved up by o so that bit k is on top
+pub window-load : (s : List ℕ) (k o w : ℕ) → o ≡ k % 8 → k / 8 + 8 ≤ length s → wordBits 64 w ≡ unpack (take 8 (drop (k / 8) s))
+    → (a : WindowAt (unpack s) k (w * 2 ^ o % 2 ^ 64)) × (a .some ≡ 64 - k % 8)
+window-load s k o w is h e =
+    let at : 8 * (k / 8) + o ≡ k = omega arith in (
+      record {
+        some = 64 - o;
+        others = o;
+        all = omega arith;
+        within = omega (arith, unpack-length s);
+        bits =
+            words-up 64 w o (omega arith)
+            ∙ ap (λ (l : List Bool). l ++ replicate o false)
+            (ap (drop o) (e ∙ unpack-take (drop (k / 8) s) 8 ∙ ap (take 64) (unpack-drop s (k / 8)))
+            ∙ drop-take o 64 (drop (8 * (k / 8)) (unpack s))
+            ∙ ap (take (64 - o)) (drop-drop o (8 * (k / 8)) (unpack s) ∙ ap (λ (n : ℕ). drop n (unpack s)) at));
+      },
+      omega arith,
+    )

@@ -13,7 +13,7 @@ use lib.Pow.{shr-shr}
 use lib.Bits.{bitAnd}
 use lib.Count.{leadingZeros, leading-top}
 use borrow.Author.Tests.{le-leb, lt-leb, leb-true, leb-false}
-use Rattle.bits.specs.Bits.{bitOf, wordBits}
+use Rattle.bits.specs.Bits.{bitValue, bitOf, wordBits}
 use Rattle.bits.proofs.Words.{bit-and, words-at, words-length, words-zero, words-split, words-mod, words-padded}
 use Rattle.fibonacci.specs.Code.{ones, leadingOnes, runs, Codeword}
 use Rattle.fibonacci.proofs.Runs.{runs-all, runs-true, runs-false}
@@ -71,7 +71,7 @@ lead-length [] = omega arith
 lead-length (false ∷ b) = omega arith
 lead-length (true ∷ b) = omega (arith, lead-length b)
 
--- ## Marks
+-- ## Where runs of ones start: marks
 
 pub starts-length : (m : ℕ) (b : List Bool) → length (runStarts m b) ≡ length b
 unfolding runStarts
@@ -83,6 +83,12 @@ unfolding runStarts
 starts-at m [] i h = sym (ap (λ (l : List Bool). leb m (leadingOnes l)) (drop-nil i) ∙ lt-leb m 0 h)
 starts-at m (a ∷ b) zero h = refl
 starts-at m (a ∷ b) (suc i) h = starts-at m b i h
+
+-- without a mark there are no m ones in a row
+pub starts-runs : (m : ℕ) (b : List Bool) → ((i : ℕ) → getD (runStarts m b) i false ≡ false) → runs m b ≡ 0
+unfolding runStarts runs
+starts-runs m [] none = refl
+starts-runs m (a ∷ b) none = ap₂ (λ (t : Bool) (k : ℕ). bitValue t + k) (none 0) (starts-runs m b (λ i. none (suc i)))
 
 -- every one is the start of one
 pub starts-one : (b : List Bool) → runStarts 1 b ≡ b

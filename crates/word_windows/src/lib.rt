@@ -1,14 +1,13 @@
 // Words of 64 bits of an encoding of order 2 to 6: where codewords end in them, and their numbers.
 ghost use mathlib.Core.Path.{_≡_};
-ghost use mathlib.Core.Bool.{false};
-ghost use Prim.Native.Nat.{_+_, _-_, _*_, _^_, _≤_, _<_};
-ghost use lib.ListN.{length, take, getD};
-ghost use Rattle.bits.specs.Bits.{wordBits, unpack};
-ghost use Rattle.fibonacci.specs.Code.{value, first};
+ghost use Prim.Native.Nat.{_*_, _≤_};
+ghost use lib.ListN.{length};
+ghost use Rattle.bits.specs.Bits.{unpack};
 ghost use Rattle.calls.specs.Limits.{Order, maxNumber};
 ghost use Rattle.fibonacci.specs.Tables.{Firsts};
 ghost use Rattle.digit_tables.specs.Leaves.{byteValues};
-ghost use Rattle.word_windows.specs.Leaves.{ExactIfLegal, runStarts, WindowAt};
+ghost use Rattle.digit_values.specs.Leaves.{IsBody};
+ghost use Rattle.word_windows.specs.Leaves.{bodyNumber, ExactIfLegal, MarksRuns, LoadedWindow};
 
 // The next bits of an encoding, the first on top, and where in them as many ones as the order begin.
 pub struct Window {
@@ -17,9 +16,10 @@ pub struct Window {
 }
 
 // Where `order` ones in a row begin in a word: a one at each such place. Ones that begin here and again no further on than they reach are one longer run.
+// Requires: an order in use, which `window_at` requires.
 fn run_starts(w: u64, order: usize) -> u64
     requires { ⌜ Order order ⌝ }
-    ensures { λ r. ⌜ (wordBits 64 r ≡ runStarts order (wordBits 64 w)) × (r < 2 ^ 64) ⌝ }
+    ensures { λ r. ⌜ MarksRuns order w r ⌝ }
 {
     let two = w & w << 1;
     if order == 2 {
@@ -32,10 +32,11 @@ fn run_starts(w: u64, order: usize) -> u64
     four & four << (order & 3)
 }
 
-// The window from a bit on; an empty one where fewer than eight bytes are left there. The decoder has checked the order, and stays within the bytes.
+// The window from a bit on; an empty one where fewer than eight bytes are left from the byte of that bit on. Requires: an order in use, and a bit within the
+// bytes or at their end, which the word decoder shows.
 pub fn window_at(s: &[u8], order: usize, bit: usize) -> Window
     requires { ⌜ Order order × (bit ≤ 8 * length (now s)) ⌝ }
-    ensures { λ r. ⌜ WindowAt (unpack (now (s .entry))) bit (r .left) × (wordBits 64 (r .starts) ≡ runStarts order (wordBits 64 (r .left))) × (r .starts < 2 ^ 64) ⌝ }
+    ensures { λ r. ⌜ LoadedWindow order (unpack (now (s .entry))) bit r ⌝ }
 {
     let q = bit >> 3;
     if s.len() < q + 8 {
@@ -48,11 +49,11 @@ pub fn window_at(s: &[u8], order: usize, bit: usize) -> Window
     }
 }
 
-// The number of the codeword whose bits before its last ones are the first `len` of a word. Where it is above 4,294,967,295, what is returned is so too, or 0. The
-// decoder has the tables from `digit_tables` and `fibonacci`, and a word that begins with such bits.
+// The number of the codeword whose bits before its last ones are the first `len` of a word. Where it is above 4,294,967,295, what is returned is so too, or 0.
+// Requires: the tables of `fibonacci` and `digit_tables` for an order in use, and such bits, which the word decoder takes and shows.
 pub fn number(values: &[u32; 1536], firsts: &[u32; 47], order: usize, w: u64, len: usize) -> u64
-    requires { ⌜ Firsts order (now firsts) × (now values ≡ byteValues order) × (1 ≤ len → getD (wordBits 64 w) (len - 1) false ≡ false) ⌝ }
-    ensures { λ r. ⌜ ExactIfLegal (first order len + value order 1 (take len (wordBits 64 w))) r × (r ≤ 7 * maxNumber) ⌝ }
+    requires { ⌜ Firsts order (now firsts) × (now values ≡ byteValues order) × IsBody w len ⌝ }
+    ensures { λ r. ⌜ ExactIfLegal (bodyNumber order w len) r × (r ≤ 7 * maxNumber) ⌝ }
 {
     if len <= 9 {
         return fibonacci::first_number(firsts, order, len)

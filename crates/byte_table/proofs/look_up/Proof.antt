@@ -41,11 +41,8 @@ cast-t29 c = search needs
 wide-requires-4 : tie.Need-wide-requires-4
 wide-requires-4 c κs = search needs
 
-mul-t35 : tie.Need-mul-t35
-mul-t35 c = search needs
-
-cast-t36 : tie.Need-cast-t36
-cast-t36 c = search needs
+cast-t35 : tie.Need-cast-t35
+cast-t35 c = search needs
 
 returns : tie.Need-returns
 returns c =
@@ -54,7 +51,18 @@ returns c =
     rw (c .before .before .before .wide .ensures, c .before .before .wide2 .ensures, c .before .wide3 .ensures, c .wide4 .ensures) (
       (ap₂ (λ (hs ts : List ℕ). unpacked (getD hs (a .at) 0) (getD ts (a .at) 0)) (z .pre .0) (z .pre .1)
           ∙ rule (a .at) (z .pre .2)),
-      (omega arith, omega arith, omega arith, omega arith, omega arith, omega arith, omega arith, omega arith, omega arith),
+      record {
+        count = omega arith;
+        len = omega arith;
+        coef0 = omega arith;
+        coef1 = omega arith;
+        coef2 = omega arith;
+        second = omega arith;
+        third = omega arith;
+        rest-len = omega arith;
+        rest-value = omega arith;
+        rest-ones = omega arith;
+      },
     )
 
 pub look-up-spec : {M : Type 1} → statement M
@@ -72,6 +80,5 @@ look-up-spec =
     wide-requires-3
     cast-t29
     wide-requires-4
-    mul-t35
-    cast-t36
+    cast-t35
     returns)

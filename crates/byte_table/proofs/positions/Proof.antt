@@ -2,12 +2,12 @@
 use mathlib.Core.Path.{_≡_, refl}
 use Rattle.fibonacci.specs.Code.{past, F}
 use Rattle.fibonacci.specs.Tables.{numberOrZero}
-use Rattle.byte_table.specs.Leaves.{F2, positionWords}
+use Rattle.byte_table.specs.Leaves.{twoBack, positionWords}
 use Rattle.byte_table.proofs.positions.Statement.{statement}
 use Rattle.byte_table.proofs.positions.Tie as tie
 
 returns : tie.Need-returns
-unfolding positionWords numberOrZero F2 F past
+unfolding positionWords numberOrZero twoBack F past
 returns c = let same : positionWords ≡ positionWords = refl in same
 
 pub positions-spec : {M : Type 1} → statement M

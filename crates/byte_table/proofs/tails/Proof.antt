@@ -3,12 +3,12 @@ use mathlib.Core.Path.{refl}
 use Rattle.bits.specs.Bits.{bitOf, wordBits}
 use Rattle.fibonacci.specs.Code.{past, F, value, first, number}
 use Rattle.fibonacci.specs.Encoding.{parse, parseAfter}
-use Rattle.byte_table.specs.Leaves.{withoutTrailing, trailingOnes, after, front, inside, rowOfParse, rowAt, tailWords}
+use Rattle.byte_table.specs.Leaves.{withoutTrailing, trailingOnes, parseByte, finishing, insideNumbers, remains, rowOfParse, rowAt, tailWords}
 use Rattle.byte_table.proofs.tails.Statement.{statement}
 use Rattle.byte_table.proofs.tails.Tie as tie
 
 returns : tie.Need-returns
-unfolding tailWords rowAt rowOfParse after front inside withoutTrailing trailingOnes parse parseAfter value number first F past wordBits bitOf
+unfolding tailWords rowAt rowOfParse parseByte finishing insideNumbers remains withoutTrailing trailingOnes parse parseAfter value number first F past wordBits bitOf
 returns c = refl
 
 pub tails-spec : {M : Type 1} → statement M

@@ -35,7 +35,7 @@ deliver-requires : tie.Need-deliver-requires
 deliver-requires c κs =
     let r = c .before .before .before in
     let a = r .before .before .before .before .before .before .before .args in
-    holds-row (decode (fibonacci (a .order)) maxNumber (a .s .now)) (r .store-row .last .1 .1 .1 .0) (r .store-row .result) (r .store-row .ensures .0) (r .store-row .ensures .1)
+    holds-row (decode (fibonacci (a .order)) maxNumber (a .s .now)) (r .store-row .last .1 .1 .1 .0) (r .store-row .result) (r .store-row .ensures)
 
 same-length : tie.Need-same-length
 same-length c = search needs
@@ -44,7 +44,7 @@ returns-2 : tie.Need-returns-2
 returns-2 c =
     let d = c .before .before in
     let r = d .before .before .before .before in
-    delivered-read _ _ _ _ _ (r .store-row .result) (d .deliver .result) (ordered (r .before .before .before)) (r .store-row .ensures .0) (r .store-row .ensures .1) (d .deliver .ensures)
+    delivered-read _ _ _ _ _ (r .store-row .result) (d .deliver .result) (ordered (r .before .before .before)) (r .store-row .ensures) (d .deliver .ensures)
 
 slice-aggregate-store-row-2 : tie.Need-slice-aggregate-store-row-2
 slice-aggregate-store-row-2 c = search needs
@@ -59,7 +59,7 @@ deliver-requires-2 : tie.Need-deliver-requires-2
 deliver-requires-2 c κs =
     let r = c .before .before .before in
     let a = r .before .before .before .before .before .before .before .args in
-    holds-row (decode (fibonacci (a .order)) maxNumber (a .s .now)) (r .store-row2 .last .1 .1 .1 .0) (r .store-row2 .result) (r .store-row2 .ensures .0) (r .store-row2 .ensures .1)
+    holds-row (decode (fibonacci (a .order)) maxNumber (a .s .now)) (r .store-row2 .last .1 .1 .1 .0) (r .store-row2 .result) (r .store-row2 .ensures)
 
 same-length-2 : tie.Need-same-length-2
 same-length-2 c = search needs
@@ -68,7 +68,7 @@ returns-3 : tie.Need-returns-3
 returns-3 c =
     let d = c .before .before in
     let r = d .before .before .before .before in
-    delivered-read _ _ _ _ _ (r .store-row2 .result) (d .deliver2 .result) (ordered (r .before .before .before)) (r .store-row2 .ensures .0) (r .store-row2 .ensures .1) (d .deliver2 .ensures)
+    delivered-read _ _ _ _ _ (r .store-row2 .result) (d .deliver2 .result) (ordered (r .before .before .before)) (r .store-row2 .ensures) (d .deliver2 .ensures)
 
 pub read-spec : {M : Type 1} → statement M
 read-spec =

@@ -6,7 +6,7 @@ use borrow.Author.Tests.{lt-ltb, le-ltb}
 use lib.ListN.{length, take, drop}
 use lib.Seq.{length-take-le}
 use Rattle.calls.specs.declared.CountAnswer.{CountAnswer}
-use Rattle.reading.specs.Answers.{Holds}
+use Rattle.reading.specs.Leaves.{Holds}
 use Rattle.reading.proofs.deliver.Statement.{statement}
 use Rattle.reading.proofs.deliver.Tie as tie
 

@@ -16,7 +16,7 @@ slice-aggregate-deliver c = search needs
 deliver-requires : tie.Need-deliver-requires
 deliver-requires c κs =
     let f = c .before .before .scan-into in
-    holds-row (decode (fibonacci 3) maxNumber (c .before .before .before .before .before .before .args .s .now)) (f .last .1 .1 .0) (f .result) (f .ensures .0) (f .ensures .1)
+    holds-row (decode (fibonacci 3) maxNumber (c .before .before .before .before .before .before .args .s .now)) (f .last .1 .1 .0) (f .result) (f .ensures .0)
 
 same-length : tie.Need-same-length
 same-length c = search needs
@@ -26,7 +26,7 @@ returns c =
     let d = c .before .before in
     let f = d .before .before .before .scan-into in
     table-promise _ _ (d .deliver .result) _
-    (delivered-read 3 _ _ _ _ (f .result) (d .deliver .result) order-3 (f .ensures .0) (f .ensures .1) (d .deliver .ensures))
+    (delivered-read 3 _ _ _ _ (f .result) (d .deliver .result) order-3 (f .ensures .0) (d .deliver .ensures))
 
 pub read-spec : {M : Type 1} → statement M
 read-spec =

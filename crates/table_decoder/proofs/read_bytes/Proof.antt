@@ -14,12 +14,12 @@ enum-known-scanned c = search needs
 mul-if1 : tie.Need-mul-if1
 mul-if1 c =
     let k = c .before in
-    omega (arith, row-fits _ _ _ (k .before .before .scan-into .ensures) _ (k .scanned .given .1))
+    omega (arith, row-fits _ _ _ (k .before .before .scan-into .ensures .0) _ (k .scanned .given .1))
 
 returns : tie.Need-returns
 returns c =
     let k = c .before .before in
-    bytes-room _ _ _ (k .before .before .scan-into .ensures) _ (k .scanned .given .1) _ (c .if1 .taken)
+    bytes-room _ _ _ (k .before .before .scan-into .ensures .0) _ (k .scanned .given .1) _ (c .if1 .taken)
 
 slice-aggregate-put-row : tie.Need-slice-aggregate-put-row
 slice-aggregate-put-row c = search needs
@@ -28,7 +28,7 @@ put-row-requires : tie.Need-put-row-requires
 put-row-requires c κs =
     let e = c .before .before in
     let k = e .before .before in
-    (omega (arith, row-fits _ _ _ (k .before .before .scan-into .ensures) _ (k .scanned .given .1), k .before .before .scan-into .ensures .2), e .if1 .left)
+    (omega (arith, row-fits _ _ _ (k .before .before .scan-into .ensures .0) _ (k .scanned .given .1), k .before .before .scan-into .ensures .1), e .if1 .left)
 
 enum-told : tie.Need-enum-told
 enum-told c = search needs
@@ -41,11 +41,11 @@ returns-2 c =
     let p = c .before .before in
     let e = p .before .before .before in
     let k = e .before .before in
-    let r = bytes-row _ _ _ (k .before .before .scan-into .ensures) _ (k .scanned .given .1) _ (e .if1 .left) in
+    let r = bytes-row _ _ _ (k .before .before .scan-into .ensures .0) _ (k .scanned .given .1) _ (e .if1 .left) in
     (r .0, p .put-row .ensures ∙ r .1)
 
 returns-3 : tie.Need-returns-3
-returns-3 c = bytes-refused _ _ _ (c .before .before .scan-into .ensures) _ _ (c .enum-told .given .1)
+returns-3 c = bytes-refused _ _ _ (c .before .before .scan-into .ensures .0) _ _ (c .enum-told .given .1)
 
 pub read-bytes-spec : {M : Type 1} → statement M
 read-bytes-spec =

@@ -8,7 +8,7 @@ use Rattle.table_decoder.proofs.scan_into.Tie as tie
 returns : tie.Need-returns
 returns c =
     let z = c .before .before in
-    rw (decode-long 3 (z .args .limit) (z .args .s .now) (omega arith)) (refl, tt, z .pre .1)
+    rw (decode-long 3 (z .args .limit) (z .args .s .now) (omega arith)) ((refl, tt), z .pre .1)
 
 heads-requires : tie.Need-heads-requires
 heads-requires c κs = search needs

@@ -29,7 +29,7 @@ step c =
       byte = byte (c .before .before .before);
       row-is = c .before .before .look-up .ensures .0;
       few = c .before .before .look-up .ensures .1;
-      bitValue = c .moved .ensures .0;
+      value-is = c .moved .ensures .0;
     }
 
 loop-holds : tie.Need-loop-holds Inv-loop μ-loop
@@ -50,30 +50,33 @@ look-up-requires c κs =
     (t .heads-are, t .tails-are, omega (arith, byte c, walked-state (c .before .before .loop .inv .2)))
 
 add-end : tie.Need-add-end Inv-loop μ-loop
-add-end c = omega (arith, c .before .before .before .before .loop .inv .2 .clamped, c .before .look-up .ensures .1 .1)
+add-end c = omega (arith, c .before .before .before .before .loop .inv .2 .clamped, c .before .look-up .ensures .1 .len)
 
 moved-requires : tie.Need-moved-requires Inv-loop μ-loop
 moved-requires c κs =
     let few = c .before .look-up .ensures .1 in
-    (c .before .before .before .before .before .before .pre .0 .positions-are, omega (arith, c .before .before .before .before .loop .inv .2 .clamped), few .2, few .3, few .4)
+    (c .before .before .before .before .before .before .pre .0 .positions-are, omega (arith, c .before .before .before .before .loop .inv .2 .clamped), few .coef0, few .coef1, few .coef2)
 
 add-sum : tie.Need-add-sum Inv-loop μ-loop
 add-sum c =
     let l = c .before .before .before .before .before .loop in
     omega (arith, l .inv .2 .small, c .moved .ensures .1, c .before .before .before .before .before .before .before .pre .1)
 
+mul-state : tie.Need-mul-state Inv-loop μ-loop
+mul-state c = omega (arith, c .before .before .before .look-up .ensures .1 .rest-ones)
+
 clamp-length-requires : tie.Need-clamp-length-requires Inv-loop μ-loop
 clamp-length-requires c κs = search needs
 
 returns : tie.Need-returns Inv-loop μ-loop
 returns c =
-    let m = c .before .before .before in
+    let m = c .before .before .before .before in
     let k = m .before .before .before .before .before .loop .inv .2 in
-    rw (walked-many k (step m) (c .before .if1 .left) (omega (arith, c .if2 .taken))) (refl, tt, k .room)
+    rw (walked-many k (step m) (c .before .if1 .left) (omega (arith, c .if2 .taken))) ((refl, tt), k .room)
 
 number-requires : tie.Need-number-requires Inv-loop μ-loop
 number-requires c κs =
-    let m = c .before .before .before in
+    let m = c .before .before .before .before in
     let l = m .before .before .before .before .before .loop in
     let z = m .before .before .before .before .before .before .before in
     (z .pre .0 .firsts-are, omega (arith, l .inv .2 .small, m .moved .ensures .1, z .pre .1))
@@ -82,7 +85,7 @@ passing-requires : tie.Need-passing-requires Inv-loop μ-loop
 passing-requires c κs = search needs
 
 add-fault : tie.Need-add-fault Inv-loop μ-loop
-add-fault c = omega (arith, c .before .before .before .before .before .before .before .before .before .before .before .loop .inv .2 .most)
+add-fault c = omega (arith, c .before .before .before .before .before .before .before .before .before .before .before .before .loop .inv .2 .most)
 
 fault-requires : tie.Need-fault-requires Inv-loop μ-loop
 fault-requires c κs = search needs
@@ -91,34 +94,34 @@ returns-2 : tie.Need-returns-2 Inv-loop μ-loop
 returns-2 c =
     let a = c .before .before in
     let e = a .before .before .before in
-    let m = e .before .before in
+    let m = e .before .before .before in
     let k = m .before .before .before .before .before .loop .inv .2 in
-    rw (walked-fault k (step m) (e .if1 .left) _ (a .before .number .ensures) (m .before .before .before .before .before .before .before .pre .2) _ (a .passing .ensures) (c .before .if3 .taken)) (ap refused (c .fault .ensures), tt, k .room)
+    rw (walked-fault k (step m) (e .if1 .left) _ (a .before .number .ensures) (m .before .before .before .before .before .before .before .pre .2) _ (a .passing .ensures) (c .before .if3 .taken)) ((ap refused (c .fault .ensures), tt), k .room)
 
 put-requires : tie.Need-put-requires Inv-loop μ-loop
 put-requires c κs =
     let a = c .before .before in
     let e = a .before .before .before in
-    let m = e .before .before in
+    let m = e .before .before .before in
     let k = m .before .before .before .before .before .loop .inv .2 in
     let n = walked-number k (step m) (e .if1 .left) _ (a .before .number .ensures) (m .before .before .before .before .before .before .before .pre .2) _ (a .passing .ensures) (c .before .if3 .left) in
     (omega (arith, a .before .before .if2 .left, k .most), k .room, n)
 
 add-count : tie.Need-add-count Inv-loop μ-loop
 add-count c =
-    let m = c .before .before .before .before .before .before .before .before .before in
-    omega (arith, m .before .before .before .before .before .loop .inv .2 .most, m .before .before .look-up .ensures .1 .0)
+    let m = c .before .before .before .before .before .before .before .before .before .before in
+    omega (arith, m .before .before .before .before .before .loop .inv .2 .most, m .before .before .look-up .ensures .1 .count)
 
 returns-3 : tie.Need-returns-3 Inv-loop μ-loop
 returns-3 c =
     let a = c .before .before .before .before .before in
     let e = a .before .before .before in
-    let m = e .before .before in
+    let m = e .before .before .before in
     let k = m .before .before .before .before .before .loop .inv .2 in
     let all = c .before .before .before .before .if3 .left in
     let top = m .before .before .before .before .before .before .before .pre .2 in
     rw (walked-past k (step m) (e .if1 .left) _ (a .before .number .ensures) top _ (a .passing .ensures) all (c .if4 .taken), c .before .before .put .ensures)
-    (refl, tt, walked-room k (step m) (e .if1 .left) _ (a .before .number .ensures) top _ (a .passing .ensures) all)
+    ((refl, tt), walked-room k (step m) (e .if1 .left) _ (a .before .number .ensures) top _ (a .passing .ensures) all)
 
 add-i : tie.Need-add-i Inv-loop μ-loop
 add-i c = search needs
@@ -128,7 +131,7 @@ loop-less c = search needs
 
 loop-again : tie.Need-loop-again Inv-loop μ-loop
 loop-again c =
-    let m = c .before .before in
+    let m = c .before .before .before in
     let l = m .before .before .before .before .before .loop in
     ⊎-elim
     (λ w. (
@@ -153,14 +156,14 @@ returns-4 : tie.Need-returns-4 Inv-loop μ-loop
 returns-4 c =
     let o = c .before .before in
     let l = o .before .loop in
-    rw (walked-rest (l .inv .2) (o .loop-test .left) (sym (c .before .is-padding .ensures) ∙ not-true _ (c .if5 .taken))) (refl, tt, l .inv .2 .room)
+    rw (walked-rest (l .inv .2) (o .loop-test .left) (sym (c .before .is-padding .ensures) ∙ not-true _ (c .if5 .taken))) ((refl, tt), l .inv .2 .room)
 
 returns-5 : tie.Need-returns-5 Inv-loop μ-loop
 returns-5 c =
     let o = c .before .before in
     let l = o .before .loop in
     let t = walked-padding (l .inv .2) (o .loop-test .left) (sym (c .before .is-padding .ensures) ∙ not-false _ (c .if5 .left)) in
-    rw (t .0) (ap accepted (sym (t .2)), ap (λ (n : ℕ). take n (l .row)) (t .2) ∙ t .1, l .inv .2 .room)
+    rw (t .0) ((ap accepted (sym (t .2)), ap (λ (n : ℕ). take n (l .row)) (t .2) ∙ t .1), l .inv .2 .room)
 
 pub walk-spec : {M : Type 1} → statement M
 walk-spec =
@@ -176,6 +179,7 @@ walk-spec =
     add-end
     moved-requires
     add-sum
+    mul-state
     clamp-length-requires
     returns
     number-requires

@@ -1,5 +1,5 @@
 use mathlib.Core.Path.{_≡_, refl, sym, _∙_}
-use mathlib.Core.Bool.{true}
+use mathlib.Core.Bool.{true, false}
 use mathlib.Core.List.{List, [], _∷_, _++_}
 use Prim.Native.Nat.{ℕ, _+_, _-_, _*_, _%_, _^_, _≤_, _<_, min}
 use native.Mathlib.Omega.{arith}
@@ -8,12 +8,13 @@ use lib.ListN.{length, take, set, length-set}
 use lib.Seq.{take-suc-set}
 use lib.Count.{leadingZeros, leading-le}
 use borrow.Author.Needs.{needs}
-use borrow.Author.Tests.{not-false}
+use borrow.Author.Tests.{not-true, not-false}
 use Rattle.bits.specs.Bits.{unpack}
 use Rattle.bits.proofs.Bytes.{unpack-length}
 use Rattle.calls.proofs.Checks.{number-is}
 use Rattle.calls.specs.Limits.{isNumber, maxCount}
-use Rattle.word_decoder.proofs.Taking.{Going, taken-none, going-filled, going-zero, going-within, going-short, going-more}
+use Rattle.word_decoder.specs.Leaves.{full}
+use Rattle.word_decoder.proofs.Taking.{Going, taken-none, stopped-window, going-filled, going-zero, going-within, going-large, going-short, going-more}
 use Rattle.word_decoder.proofs.Spans.{decoded-none}
 use Rattle.word_decoder.proofs.take_row.Statement.{statement}
 use Rattle.word_decoder.proofs.take_row.Tie as tie
@@ -32,6 +33,10 @@ end s k h = omega (arith, unpack-length s)
 -- the number has passed its check
 passed : (c : tie.Else2 Inv-loop μ-loop) → isNumber (c .before .before .before .before .before .before .before .before .before .before .before .before .before .args .limit) (c .before .before .number .result) ≡ true
 passed c = sym (c .before .is-number .ensures) ∙ not-false _ (c .if2 .left)
+
+-- .. or has not
+failed : (c : tie.Then2 Inv-loop μ-loop) → isNumber (c .before .before .before .before .before .before .before .before .before .before .before .before .before .args .limit) (c .before .before .number .result) ≡ false
+failed c = sym (c .before .is-number .ensures) ∙ not-true _ (c .if2 .taken)
 
 -- a number more
 module _ (c : tie.Else2 Inv-loop μ-loop) where
@@ -79,7 +84,9 @@ window-at-requires : tie.Need-window-at-requires Inv-loop μ-loop
 window-at-requires c κs = (c .before .before .before .before .before .pre .0 .0, omega arith)
 
 returns : tie.Need-returns Inv-loop μ-loop
-returns c = (decoded-none _ _ _, refl)
+returns c =
+    let z = c .before .before .before .before .before .before .before in
+    ((decoded-none _ _ _, refl), stopped-window _ (omega (arith, z .pre .0 .0)) (c .before .window-at .ensures) (c .if1 .taken))
 
 loop-holds : tie.Need-loop-holds Inv-loop μ-loop
 loop-holds c =
@@ -87,9 +94,8 @@ loop-holds c =
       record {
         taken = taken-none _ _ _ _ (omega arith);
         many = refl;
-        window_at = e .0;
-        marked = e .1;
-        low = e .2;
+        window = e .window;
+        marked = e .marked;
       },
       refl,
       omega arith,
@@ -118,8 +124,12 @@ same-length c = let v = c .before .before .before .before .before .loop .inv in 
 
 returns-2 : tie.Need-returns-2 Inv-loop μ-loop
 returns-2 c =
-    let v = c .before .before .before .before .before .loop .inv in
-    (record { taken = v .0 .taken; many = v .0 .many; most = omega (arith, v .2, v .3) }, v .1)
+    let l = c .before .before .before .before .before in
+    let v = l .loop .inv in
+    let p = l .before .before .before .before .before .before .before .before .pre in (
+      (record { taken = v .0 .taken; many = v .0 .many; most = omega (arith, v .2, v .3) }, v .1),
+      going-large (v .0) (p .0 .0) (v .4) _ (c .before .before .number .result) (c .before .before .number .ensures .0) (failed c) (p .2),
+    )
 
 cast-row : tie.Need-cast-row Inv-loop μ-loop
 cast-row c = omega (arith, number-is _ _ (passed c), start c .pre .2)
@@ -151,8 +161,10 @@ same-length-2 c = sized (c .before .before .before)
 returns-3 : tie.Need-returns-3 Inv-loop μ-loop
 returns-3 c =
     let e = c .before .before .before in
-    let g = more e in
-    (record { taken = g .taken; many = g .many; most = omega (arith, inside e .loop-test .taken, at e .loop .inv .3) }, sized e)
+    let g = more e in (
+      (record { taken = g .taken; many = g .many; most = omega (arith, inside e .loop-test .taken, at e .loop .inv .3) }, sized e),
+      stopped-window _ (omega (arith, start e .pre .0 .0)) (c .before .window-at2 .ensures) (c .if4 .taken),
+    )
 
 loop-less : tie.Need-loop-less Inv-loop μ-loop
 loop-less c = let e = c .before .before .before in omega (arith, within e, start e .pre .0 .0)
@@ -161,7 +173,7 @@ loop-again : tie.Need-loop-again Inv-loop μ-loop
 loop-again c =
     let e = c .before .before .before in
     let a = c .before .window-at2 .ensures in
-    (going-filled (more e) _ _ (a .0) (a .1) (a .2), sized e, omega (arith, inside e .loop-test .taken), at e .loop .inv .3, omega (arith, c .if4 .left))
+    (going-filled (more e) _ a, sized e, omega (arith, inside e .loop-test .taken), at e .loop .inv .3, omega (arith, c .if4 .left))
 
 loop-less-2 : tie.Need-loop-less-2 Inv-loop μ-loop
 loop-less-2 c = omega (arith, within (c .before), start (c .before) .pre .0 .0)
@@ -177,7 +189,7 @@ same-length-3 c = let v = c .before .loop .inv in v .1
 returns-4 : tie.Need-returns-4 Inv-loop μ-loop
 returns-4 c =
     let v = c .before .loop .inv in
-    (record { taken = v .0 .taken; many = v .0 .many; most = omega (arith, v .2, v .3) }, v .1)
+    ((record { taken = v .0 .taken; many = v .0 .many; most = omega (arith, v .2, v .3) }, v .1), full (omega (arith, v .2, v .3, c .loop-test .left)))
 
 pub take-row-spec : {M : Type 1} → statement M
 take-row-spec =

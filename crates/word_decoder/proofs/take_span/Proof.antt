@@ -7,7 +7,8 @@ use Rattle.bits.specs.Bits.{unpack}
 use Rattle.bits.proofs.Bytes.{unpack-length}
 use Rattle.calls.specs.Limits.{maxCount}
 use Rattle.word_decoder.specs.declared.Segment.{Segment}
-use Rattle.word_decoder.specs.Leaves.{DecodedPrefix, Spanned}
+use Rattle.word_decoder.specs.Leaves.{full, DecodedPrefix, Spanned}
+use Rattle.word_decoder.proofs.Taking.{stopped-before}
 use Rattle.word_decoder.proofs.Spans.{decoded-more, spanned-none, spanned-most, spanned-more}
 use Rattle.word_decoder.proofs.take_span.Statement.{statement}
 use Rattle.word_decoder.proofs.take_span.Tie as tie
@@ -105,10 +106,12 @@ loop-again : tie.Need-loop-again Inv-loop μ-loop
 loop-again c = reached (c .before .before)
 
 returns : tie.Need-returns Inv-loop μ-loop
-returns c = c .before .loop .inv
+returns c = let v = c .before .loop .inv in (v, full (omega (arith, v .decoded .most, c .loop-test .left)))
 
 returns-2 : tie.Need-returns-2 Inv-loop μ-loop
-returns-2 c = reached (c .before .before)
+returns-2 c =
+    let e = c .before .before .before .before .before in
+    (reached (c .before .before), stopped-before _ _ (c .if1 .taken) (e .before .take-sum .ensures .stopped))
 
 pub take-span-spec : {M : Type 1} → statement M
 take-span-spec =

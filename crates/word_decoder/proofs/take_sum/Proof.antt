@@ -1,19 +1,20 @@
 use mathlib.Core.Path.{_≡_, refl, sym, _∙_}
-use mathlib.Core.Bool.{true}
+use mathlib.Core.Bool.{true, false}
 use mathlib.Core.List.{List, [], _∷_, _++_}
 use Prim.Native.Nat.{ℕ, _+_, _-_, _*_, _%_, _^_, _≤_}
 use native.Mathlib.Omega.{arith}
 use lib.ListN.{length, length-append}
 use lib.Count.{leadingZeros, leading-le}
 use borrow.Author.Needs.{needs}
-use borrow.Author.Tests.{not-false}
+use borrow.Author.Tests.{not-true, not-false}
 use Rattle.lists.specs.Lists.{sum}
 use Rattle.lists.proofs.Sums.{sum-snoc}
 use Rattle.bits.specs.Bits.{unpack}
 use Rattle.bits.proofs.Bytes.{unpack-length}
 use Rattle.calls.proofs.Checks.{number-is}
 use Rattle.calls.specs.Limits.{isNumber, maxNumber}
-use Rattle.word_decoder.proofs.Taking.{Going, taken-none, going-filled, going-zero, going-within, going-short, going-more}
+use Rattle.word_decoder.specs.Leaves.{full}
+use Rattle.word_decoder.proofs.Taking.{Going, taken-none, stopped-window, going-filled, going-zero, going-within, going-large, going-short, going-more}
 use Rattle.word_decoder.proofs.take_sum.Statement.{statement}
 use Rattle.word_decoder.proofs.take_sum.Tie as tie
 
@@ -31,6 +32,10 @@ end s k h = omega (arith, unpack-length s)
 -- the number has passed its check
 passed : (c : tie.Else2 Inv-loop μ-loop) → isNumber (c .before .before .before .before .before .before .before .before .args .limit) (c .before .before .number .result) ≡ true
 passed c = sym (c .before .is-number .ensures) ∙ not-false _ (c .if2 .left)
+
+-- .. or has not
+failed : (c : tie.Then2 Inv-loop μ-loop) → isNumber (c .before .before .before .before .before .before .before .before .args .limit) (c .before .before .number .result) ≡ false
+failed c = sym (c .before .is-number .ensures) ∙ not-true _ (c .if2 .taken)
 
 -- a number more
 module _ (c : tie.Else2 Inv-loop μ-loop) where
@@ -80,6 +85,7 @@ returns c =
       many = refl;
       few = omega arith;
       total = refl;
+      stopped = stopped-window _ (omega (arith, z .pre .0 .0)) (c .before .window-at .ensures) (c .if1 .taken);
     }
 
 loop-holds : tie.Need-loop-holds Inv-loop μ-loop
@@ -90,9 +96,8 @@ loop-holds c =
       record {
         taken = taken-none _ _ _ _ (omega (arith, unpack-length (z .args .s .now), z .pre .5));
         many = refl;
-        window_at = e .0;
-        marked = e .1;
-        low = e .2;
+        window = e .window;
+        marked = e .marked;
       },
       refl,
       omega arith,
@@ -116,8 +121,17 @@ is-number-requires c κs = search needs
 
 returns-2 : tie.Need-returns-2 Inv-loop μ-loop
 returns-2 c =
-    let v = c .before .before .before .before .loop .inv in
-    record { row = v .0; taken = v .1 .taken; many = v .1 .many; few = v .4; total = v .2 }
+    let l = c .before .before .before .before in
+    let v = l .loop .inv in
+    let p = l .before .before .before .before .pre in
+    record {
+      row = v .0;
+      taken = v .1 .taken;
+      many = v .1 .many;
+      few = v .4;
+      total = v .2;
+      stopped = going-large (v .1) (p .0 .0) (v .5) _ (c .before .before .number .result) (c .before .before .number .ensures .0) (failed c) (p .3);
+    }
 
 add-sum : tie.Need-add-sum Inv-loop μ-loop
 add-sum c = omega (arith, at c .loop .inv .3, at c .loop .inv .1 .many, inside c .loop-test .taken, number-is _ _ (passed c), start c .pre)
@@ -140,7 +154,14 @@ window-at-requires-2 c κs = (start (c .before) .pre .0 .0, within (c .before))
 returns-3 : tie.Need-returns-3 Inv-loop μ-loop
 returns-3 c =
     let e = c .before .before .before in
-    record { row = _; taken = more e .taken; many = more e .many; few = few e; total = summed e }
+    record {
+      row = _;
+      taken = more e .taken;
+      many = more e .many;
+      few = few e;
+      total = summed e;
+      stopped = stopped-window _ (omega (arith, start e .pre .0 .0)) (c .before .window-at2 .ensures) (c .if4 .taken);
+    }
 
 loop-less : tie.Need-loop-less Inv-loop μ-loop
 loop-less c = let e = c .before .before .before in omega (arith, within e, start e .pre .0 .0)
@@ -149,7 +170,7 @@ loop-again : tie.Need-loop-again Inv-loop μ-loop
 loop-again c =
     let e = c .before .before .before in
     let a = c .before .window-at2 .ensures in
-    (_, going-filled (more e) _ _ (a .0) (a .1) (a .2), summed e, little e, few e, omega (arith, c .if4 .left))
+    (_, going-filled (more e) _ a, summed e, little e, few e, omega (arith, c .if4 .left))
 
 loop-less-2 : tie.Need-loop-less-2 Inv-loop μ-loop
 loop-less-2 c = omega (arith, within (c .before), start (c .before) .pre .0 .0)
@@ -160,7 +181,7 @@ loop-again-2 c = let e = c .before in (_, more e, summed e, little e, few e, ome
 returns-4 : tie.Need-returns-4 Inv-loop μ-loop
 returns-4 c =
     let v = c .before .loop .inv in
-    record { row = v .0; taken = v .1 .taken; many = v .1 .many; few = v .4; total = v .2 }
+    record { row = v .0; taken = v .1 .taken; many = v .1 .many; few = v .4; total = v .2; stopped = full (omega (arith, v .4, c .loop-test .left)) }
 
 pub take-sum-spec : {M : Type 1} → statement M
 take-sum-spec =

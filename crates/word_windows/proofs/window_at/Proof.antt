@@ -1,5 +1,5 @@
 use native.Mathlib.Omega.{arith}
-use lib.Bits.{and-mask}
+use lib.Bits.{bitAnd, and-mask}
 use borrow.Author.Needs.{needs}
 use Rattle.bits.specs.Bits.{unpack}
 use Rattle.bits.proofs.Bytes.{unpack-length}
@@ -14,7 +14,11 @@ add-if1 c = search needs
 returns : tie.Need-returns
 returns c =
     let a = c .before .before .args in
-    (window-none (unpack (a .s .now)) (a .bit) (omega (arith, unpack-length (a .s .now))), starts-none (a .order) 64 (omega arith), omega arith)
+    record {
+      window = window-none (unpack (a .s .now)) (a .bit) (omega (arith, unpack-length (a .s .now)));
+      whole = λ h. absurd (omega (arith, unpack-length (a .s .now)));
+      marked = (starts-none (a .order) 64 (omega arith), omega arith);
+    }
 
 word-requires : tie.Need-word-requires
 word-requires c κs = search needs
@@ -28,11 +32,13 @@ run-starts-requires c κs = search needs
 returns-2 : tie.Need-returns-2
 returns-2 c =
     let start = c .before .before .before .before in
-    let a = start .args in (
-      rw (and-mask (a .bit) 3) (window-load (a .s .now) (a .bit) (c .before .word .result) (omega arith) (c .before .word .ensures)),
-      c .run-starts .ensures .0,
-      c .run-starts .ensures .1,
-    )
+    let a = start .args in
+    let (full, some) = window-load (a .s .now) (a .bit) (bitAnd (a .bit) 7) (c .before .word .result) (and-mask (a .bit) 3) (omega arith) (c .before .word .ensures) in
+    record {
+      window = full;
+      whole = λ h. some;
+      marked = c .run-starts .ensures;
+    }
 
 pub window-at-spec : {M : Type 1} → statement M
 window-at-spec = tie.close (tie.spec add-if1 returns word-requires shl-left run-starts-requires returns-2)

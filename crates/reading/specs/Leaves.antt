@@ -1,23 +1,37 @@
--- What readers of an encoding answer and leave behind: for their contracts.
+-- What the readers of an encoding share: the number of a codeword, the padding, and how the row goes to the output.
 use mathlib.Core.Path.{_≡_}
+use mathlib.Core.Bool.{Bool, _&&_}
 use mathlib.Core.List.{List}
-use Prim.Native.Nat.{ℕ, _≤_}
-use lib.Dec.{ltb}
+use Prim.Native.Nat.{ℕ, _+_, _≤_, _<_}
+use lib.Dec.{ltb, eqb}
 use lib.ListN.{length, take}
+use Rattle.fibonacci.specs.Code.{first}
 use Rattle.calls.specs.declared.Refusal.the-variants.{NoRoom}
 use Rattle.calls.specs.declared.CountAnswer.{CountAnswer}
 use Rattle.calls.specs.declared.CountAnswer.the-variants.{Count, Refused}
 use Rattle.calls.specs.Calls.{Outcome, accepted, refused, answerResults, check, andThen, buffer, countOutcome}
-use Rattle.reading.specs.Reading.{read, readInto}
+use Rattle.calls.specs.Limits.{maxNumber}
 
--- What a reader of order m promises of its answer, and of its output before and after
-abbrev pub ReadPromise : ℕ → List ℕ → List ℕ → CountAnswer → List ℕ → Type 0
-ReadPromise m s before a after = (countOutcome a ≡ read m s (length before)) × (after ≡ readInto m s before)
+-- n is the number of a codeword with `len` bits before its last ones, whose value is `val`, as far as a number of that length can be legal; else it is 0
+abbrev pub Numbered : ℕ → ℕ → ℕ → ℕ → Type 0
+Numbered m len val n = (first m len ≤ maxNumber → n ≡ first m len + val) × (maxNumber < first m len → n ≡ 0)
+
+-- Whether what is pending at the end is padding, by its length and value before its trailing ones, and by these
+abbrev pub isPadding : ℕ → ℕ → ℕ → Bool
+isPadding len val run = ltb len 8 && (eqb val 0 && eqb run 0)
+
+-- How many numbers the row has that is found
+abbrev pub counting : Outcome (List ℕ) → Outcome ℕ
+counting found = andThen found (λ row. accepted (length row))
 
 -- A list of the reader's own after its scan: where the scan accepts, it begins with the row
 abbrev pub Begins : Outcome (List ℕ) → List ℕ → Type 0
 Begins (accepted row) list = take (length row) list ≡ row
 Begins (refused r) list = Unit {0}
+
+-- What a scan that finds this answers, and leaves in its list
+abbrev pub Scanned : Outcome (List ℕ) → CountAnswer → List ℕ → Type 0
+Scanned found a list = (countOutcome a ≡ counting found) × Begins found list
 
 -- A list has as many elements as were counted
 abbrev pub Holds : CountAnswer → ℕ → Type 0
