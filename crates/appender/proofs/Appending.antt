@@ -8,7 +8,8 @@ use lib.Dec.{leb, ltb}
 use lib.ListN.{length, take, drop, length-append}
 use lib.Seq.{length-take-le, take-append-seam, take-take}
 use borrow.Author.Tests.{le-leb, lt-leb, lt-ltb, le-ltb, ltb-false, leb-false, not-false}
-use Rattle.bits.specs.Bits.{Bytes, byteCount, unpack, pack, putAt}
+use Rattle.bits.specs.Bits.{Bytes, byteCount, unpack, pack}
+use Rattle.bits.specs.Leaves.{putAt}
 use Rattle.bits.proofs.Bytes.{unpack-length, unpack-take}
 use Rattle.bits.proofs.Packing.{pack-length}
 use Rattle.bits.proofs.Put.{put-packed}

@@ -5,7 +5,7 @@ ghost use lib.ListN.{length};
 ghost use Rattle.bits.specs.Bits.{unpack};
 ghost use Rattle.fibonacci.specs.Code.{ones, value, first};
 ghost use Rattle.calls.specs.Limits.{maxNumber};
-ghost use Rattle.fibonacci.specs.Tables.{Firsts};
+ghost use Rattle.fibonacci.specs.Leaves.{Firsts};
 ghost use Rattle.bit_decoder.specs.Leaves.{Sought};
 
 // Bits up to bit `bit`: first `len`, the last of them a zero, whose value is `val`, and then `run` ones. With as many ones as the order they are a codeword;

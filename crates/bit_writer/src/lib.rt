@@ -3,7 +3,8 @@ ghost use mathlib.Core.Path.{_≡_};
 ghost use mathlib.Core.List.{_++_};
 ghost use Prim.Native.Nat.{_+_, _*_, _^_, _≤_, _<_};
 ghost use lib.ListN.{length, drop};
-ghost use Rattle.bits.specs.Bits.{wordBits, unpack, bytesOf, putTo, putAt};
+ghost use Rattle.bits.specs.Bits.{wordBits, unpack, bytesOf};
+ghost use Rattle.bits.specs.Leaves.{putTo, putAt};
 
 // The n low bytes of w, the highest first, at the front of the slice. Requires: at most 8, and there is room, which `put_word` shows.
 fn store(s: &mut [u8], w: u64, n: usize)

@@ -10,7 +10,8 @@ use lib.Seq.{take-at, take-all, take-take, drop-at, drop-drop, length-take-le, t
 use lib.Pow.{shl-exact, pow-add}
 use lib.Bits.{bitOr, or-shifted}
 use lib.Arith.{digits-lt}
-use Rattle.bits.specs.Bits.{Bytes, wordBits, unpack, bytesOf, byteCount, pack, padding, putTo, putAt}
+use Rattle.bits.specs.Bits.{Bytes, wordBits, unpack, bytesOf, byteCount, pack, padding}
+use Rattle.bits.specs.Leaves.{putTo, putAt}
 use Rattle.bits.proofs.Words.{words-length, words-split, words-join, words-padded}
 use Rattle.bits.proofs.Bytes.{unpack-append, unpack-length, unpack-drop, high-below, top-bits, first-bits}
 use Rattle.bits.proofs.Packing.{fit, fit-long, unpack-bytes, unpack-pack, word-of-bits, bytes-append, bytes-drop, pack-bytes, pack-length, unpack-apart}

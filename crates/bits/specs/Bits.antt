@@ -1,9 +1,9 @@
 -- Bits in bytes: a list of bytes as a list of bits, and back. A bit is a Bool, true for a one.
 use mathlib.Core.Bool.{Bool, true, false, not}
-use mathlib.Core.List.{List, [], _∷_, _++_, map, flatten}
+use mathlib.Core.List.{List, [], _∷_, map, flatten}
 use Prim.Native.Nat.{ℕ, zero, suc, _+_, _-_, _*_, _/_, _%_, _^_, _<_}
 use lib.Dec.{eqb}
-use lib.ListN.{length, getD, take, drop, replicate}
+use lib.ListN.{length, getD, drop}
 
 -- The elements of a list are bytes
 abbrev pub Bytes : List ℕ → Type 0
@@ -53,16 +53,6 @@ pack b = bytesOf (byteCount (length b)) b
 -- How many zeros fill the last byte (paper 01: the fill)
 unfoldable pub padding : ℕ → ℕ
 padding n = 8 * byteCount n - n
-
--- ## Bits put into a buffer
-
--- A list of bits with new bits after its first n, then zeros up to bit e, then what stood there
-unfoldable pub putTo : ℕ → List Bool → ℕ → List Bool → List Bool
-putTo n new e old = take n old ++ (new ++ (replicate (e - (n + length new)) false ++ drop e old))
-
--- The same with zeros to the end of the last byte that the new bits reach
-unfoldable pub putAt : ℕ → List Bool → List Bool → List Bool
-putAt n new old = putTo n new (8 * byteCount (n + length new)) old
 
 -- ## Counting
 

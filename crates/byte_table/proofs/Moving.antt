@@ -10,7 +10,7 @@ use borrow.Author.Tests.{leb-true}
 use Rattle.lists.proofs.Lists.{values-at}
 use Rattle.fibonacci.specs.Code.{past, F, value}
 use Rattle.calls.specs.Limits.{maxNumber}
-use Rattle.fibonacci.specs.Tables.{numberOrZero}
+use Rattle.fibonacci.specs.Leaves.{numberOrZero}
 use Rattle.fibonacci.proofs.Numeration.{sumDown, F-suc, sumDown-suc, sumDown-zero, sumDown-none, F-rises}
 use Rattle.fibonacci.proofs.Lookup.{number-kept}
 use Rattle.byte_table.specs.Leaves.{twoBack, positionWords, moved, value0, value1, value2}

@@ -9,7 +9,7 @@ use Rattle.lists.specs.Lists.{valuesFrom}
 use Rattle.bits.specs.Bits.{wordBits}
 use Rattle.fibonacci.specs.Code.{F, ones, value, number}
 use Rattle.fibonacci.specs.Encoding.{Parse, parsed, codewords, rest, parse}
-use Rattle.fibonacci.specs.Tables.{numberOrZero}
+use Rattle.fibonacci.specs.Leaves.{numberOrZero}
 use Rattle.byte_table.specs.declared.Rest.{Rest}
 use Rattle.byte_table.specs.declared.Row.{Row}
 

@@ -7,7 +7,8 @@ use native.Mathlib.Omega.{arith}
 use native.Mathlib.Numerals.{add-one}
 use lib.ListN.{length, getD, take, drop, length-append, take-append-drop, drop-of-length-le}
 use lib.Seq.{take-suc, take-all, drop-cons}
-use Rattle.bits.specs.Bits.{byteCount, putTo, putAt}
+use Rattle.bits.specs.Bits.{byteCount}
+use Rattle.bits.specs.Leaves.{putTo, putAt}
 use Rattle.bits.proofs.Put.{Filled, filled-none, filled-more, filled-end}
 use Rattle.fibonacci.specs.Code.{size, codeword}
 use Rattle.fibonacci.specs.Encoding.{rowBits}

@@ -1,7 +1,8 @@
 // The codewords of a row of order 2 to 6 put into a buffer.
 ghost use mathlib.Core.Path.{_≡_};
 ghost use lib.ListN.{length};
-ghost use Rattle.bits.specs.Bits.{unpack, putAt};
+ghost use Rattle.bits.specs.Bits.{unpack};
+ghost use Rattle.bits.specs.Leaves.{putAt};
 ghost use Rattle.fibonacci.specs.Encoding.{rowBits};
 ghost use Rattle.codewords.specs.Leaves.{Tables};
 ghost use Rattle.codeword_writer.specs.Leaves.{Fits};

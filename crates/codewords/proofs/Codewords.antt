@@ -21,7 +21,7 @@ use Rattle.bits.proofs.Packing.{fit, fit-long, bits-of-word, word-below}
 use Rattle.fibonacci.specs.Code.{past, F, ones, first, size, digits, codeword}
 use Rattle.calls.proofs.Checks.{both}
 use Rattle.calls.specs.Limits.{maxNumber, Order}
-use Rattle.fibonacci.specs.Tables.{numberOrZero}
+use Rattle.fibonacci.specs.Leaves.{numberOrZero}
 use Rattle.fibonacci.proofs.Numeration.{sumDown, F-suc, sumDown-suc, sumDown-zero, sumDown-none, digits-big, digits-small, digits-append, digits-length, F-rises, F-pos}
 use Rattle.fibonacci.proofs.Numbers.{first-suc, first-rises, first-pos, F-first, codeword-size}
 use Rattle.fibonacci.proofs.Lookup.{each-order, codeword-bits, number-kept, number-zero}

@@ -8,7 +8,7 @@ use lib.ListN.{length}
 use Rattle.lists.specs.Lists.{valuesFrom}
 use Rattle.bits.specs.Bits.{wordBits, wordOf}
 use Rattle.fibonacci.specs.Code.{F, digits, codeword}
-use Rattle.fibonacci.specs.Tables.{Positions, Firsts}
+use Rattle.fibonacci.specs.Leaves.{Positions, Firsts}
 use Rattle.codewords.specs.declared.Word.{Word}
 
 -- ## The guess

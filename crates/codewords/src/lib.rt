@@ -6,7 +6,7 @@ ghost use lib.ListN.{length};
 ghost use Rattle.bits.specs.Bits.{bitValue, wordBits};
 ghost use Rattle.fibonacci.specs.Code.{first, codeword};
 ghost use Rattle.calls.specs.Limits.{Order, maxNumber};
-ghost use Rattle.fibonacci.specs.Tables.{Positions, Firsts};
+ghost use Rattle.fibonacci.specs.Leaves.{Positions, Firsts};
 ghost use Rattle.codewords.specs.Leaves.{rate, lowCount, lowDigits, HighDigits, Tables, Codes};
 
 mod tables;

@@ -7,7 +7,7 @@ ghost use Rattle.bits.specs.Bits.{unpack};
 ghost use Rattle.calls.specs.Calls.{accepted, andThen};
 ghost use Rattle.calls.specs.Limits.{Order, maxNumber, maxCount, maxBytes};
 ghost use Rattle.calls.specs.Reading.{decode};
-ghost use Rattle.fibonacci.specs.Tables.{Firsts};
+ghost use Rattle.fibonacci.specs.Leaves.{Firsts};
 ghost use Rattle.word_decoder.specs.Leaves.{Spanned, StoredRow};
 ghost use Rattle.reading.specs.Reading.{fibonacci, ReadPromise};
 ghost use Rattle.reading.specs.Leaves.{Scanned};

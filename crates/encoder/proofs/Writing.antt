@@ -7,7 +7,8 @@ use native.Mathlib.Omega.{arith}
 use lib.Dec.{ltb}
 use lib.ListN.{length}
 use borrow.Author.Tests.{lt-ltb, le-ltb, ltb-false, not-false}
-use Rattle.bits.specs.Bits.{Bytes, byteCount, unpack, putAt}
+use Rattle.bits.specs.Bits.{Bytes, byteCount, unpack}
+use Rattle.bits.specs.Leaves.{putAt}
 use Rattle.bits.proofs.Packing.{pack-length}
 use Rattle.bits.proofs.Put.{put-packed}
 use Rattle.fibonacci.specs.Encoding.{rowBits, encoding}

@@ -6,7 +6,7 @@ ghost use Rattle.calls.specs.declared.Refusal.the-variants.{BadNumber};
 ghost use Rattle.calls.specs.Calls.{accepted, countOutcome};
 ghost use Rattle.calls.specs.Limits.{maxNumber, maxCount, checkEach};
 ghost use Rattle.fibonacci.specs.Encoding.{rowBits};
-ghost use Rattle.fibonacci.specs.Tables.{Firsts};
+ghost use Rattle.fibonacci.specs.Leaves.{Firsts};
 ghost use Rattle.encoder.specs.Writing.{write, writeOutcome, WritePromise};
 use calls::CountAnswer;
 use calls::Refusal;

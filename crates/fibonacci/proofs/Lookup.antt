@@ -14,7 +14,7 @@ use Rattle.lists.proofs.Lists.{values-at}
 use Rattle.fibonacci.specs.Code.{past, F, ones, first, size, codeword}
 use Rattle.calls.specs.Limits.{maxNumber, Order}
 use Rattle.calls.proofs.Checks.{both}
-use Rattle.fibonacci.specs.Tables.{recursAfter, recurs, numberOrZero, tableRow, tableOf}
+use Rattle.fibonacci.specs.Leaves.{recursAfter, recurs, numberOrZero, tableRow, tableOf}
 use Rattle.fibonacci.proofs.Numeration.{F-rises, digits-length}
 use Rattle.fibonacci.proofs.Numbers.{first-rises, codeword-size}
 

@@ -1,3 +1,3 @@
 pub mod Code
 pub mod Encoding
-pub mod Tables
+pub mod Leaves

@@ -3,7 +3,7 @@ ghost use mathlib.Core.Path.{_≡_};
 ghost use Prim.Native.Nat.{_≤_};
 ghost use Rattle.calls.specs.Limits.{Order, maxNumber};
 ghost use Rattle.fibonacci.specs.Code.{F, first};
-ghost use Rattle.fibonacci.specs.Tables.{numberOrZero, Positions, Firsts};
+ghost use Rattle.fibonacci.specs.Leaves.{numberOrZero, Positions, Firsts};
 
 mod tables;
 

@@ -13,7 +13,7 @@ use Rattle.lists.specs.Lists.{All}
 use Rattle.columns.specs.Columns.{column, decimal}
 use Rattle.columns.proofs.Columns.{column-length, column-number, column-below}
 use Rattle.calls.proofs.Checks.{both}
-use Rattle.fibonacci.specs.Tables.{numberOrZero}
+use Rattle.fibonacci.specs.Leaves.{numberOrZero}
 use Rattle.listing_input.specs.Input.{inputLine, inputOf, fieldsOf, fields, same, isInput}
 
 -- ## Equal lists

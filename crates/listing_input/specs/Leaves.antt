@@ -4,7 +4,7 @@ use mathlib.Core.Bool.{Bool, true}
 use mathlib.Core.List.{List, map}
 use Prim.Native.Nat.{ℕ, _/_}
 use lib.ListN.{length, take}
-use Rattle.fibonacci.specs.Tables.{numberOrZero}
+use Rattle.fibonacci.specs.Leaves.{numberOrZero}
 use Rattle.listing_input.specs.Input.{fields, isInput}
 
 -- Whether a text is an input, and a list that begins with its numbers then, one above the largest as 0

@@ -2,7 +2,7 @@
 ghost use mathlib.Core.Path.{_≡_};
 ghost use Prim.Native.Nat.{_≤_};
 ghost use lib.ListN.{length};
-ghost use Rattle.fibonacci.specs.Tables.{numberOrZero};
+ghost use Rattle.fibonacci.specs.Leaves.{numberOrZero};
 ghost use Rattle.listing_input.specs.Input.{inputLine, maxInputBytes, same};
 ghost use Rattle.listing_input.specs.Leaves.{Parses};
 

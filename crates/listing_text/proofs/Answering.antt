@@ -13,7 +13,7 @@ use Rattle.calls.specs.declared.Refusal.the-variants.{TooMuchInput, BadLine}
 use Rattle.calls.specs.Refusals.{reason}
 use Rattle.calls.specs.Calls.{Outcome, accepted, refused}
 use Rattle.calls.specs.Limits.{maxNumber, maxBytes}
-use Rattle.fibonacci.specs.Tables.{numberOrZero}
+use Rattle.fibonacci.specs.Leaves.{numberOrZero}
 use Rattle.encoder.specs.Writing.{write}
 use Rattle.encoder.proofs.Writing.{write-is}
 use Rattle.listing_input.specs.Input.{maxInputBytes, fields, isInput}

@@ -13,7 +13,7 @@ use Rattle.calls.specs.declared.Refusal.{Refusal}
 use Rattle.calls.specs.declared.Refusal.the-variants.{BadOrder, BadNumber, TooManyNumbers}
 use Rattle.calls.specs.Calls.{Outcome, accepted, refused, check, andThen}
 use Rattle.calls.specs.Limits.{within, isOrder, isOutside, Legal, maxNumber, maxCount, checkEach}
-use Rattle.fibonacci.specs.Tables.{numberOrZero}
+use Rattle.fibonacci.specs.Leaves.{numberOrZero}
 use Rattle.fibonacci.proofs.Lookup.{number-kept, number-zero}
 use Rattle.encoder.specs.Writing.{write}
 use Rattle.listing_lines.specs.Lines.{lines}

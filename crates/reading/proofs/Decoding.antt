@@ -1,6 +1,6 @@
 -- When an encoding is read and what then is known of it; the answers of a reader by what it found.
 use mathlib.Core.Path.{_≡_, refl, sym, ap, ap₂, _∙_}
-use mathlib.Core.Bool.{Bool, true, false, not, _||_, true≢false}
+use mathlib.Core.Bool.{Bool, true, false, not}
 use mathlib.Core.List.{List, _++_}
 use Prim.Native.Nat.{ℕ, _≤_, _<_}
 use native.Mathlib.Omega.{arith}
@@ -14,14 +14,10 @@ use Rattle.calls.specs.declared.Refusal.the-variants.{BadOrder, TooManyBytes, N
 use Rattle.calls.specs.Calls.{Outcome, accepted, refused, check}
 use Rattle.calls.specs.Limits.{isOrder, Order, Legal, maxNumber, maxCount, maxBytes}
 use Rattle.calls.specs.Reading.{contents, decode, counted}
-use Rattle.calls.proofs.Checks.{order-is, is-order, check-passed, then-passed, accepted-one}
+use Rattle.calls.proofs.Checks.{neither, order-is, is-order, check-passed, then-passed, accepted-one}
 use Rattle.calls.proofs.Finished.{finished-all, finished-passed}
 use Rattle.reading.proofs.Checking.{rest-good, numbers-positive}
 use Rattle.reading.specs.Reading.{isBadRest, fibonacci, read, readInto}
-
-neither : (a b : Bool) → (a || b) ≡ false → (a ≡ false) × (b ≡ false)
-neither true b e = absurd (true≢false e)
-neither false b e = (refl, e)
 
 -- ## The check of the length
 

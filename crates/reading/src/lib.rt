@@ -2,7 +2,7 @@
 ghost use mathlib.Core.Path.{_≡_};
 ghost use Prim.Native.Nat.{_^_, _<_};
 ghost use lib.ListN.{length};
-ghost use Rattle.fibonacci.specs.Tables.{Firsts};
+ghost use Rattle.fibonacci.specs.Leaves.{Firsts};
 ghost use Rattle.reading.specs.Leaves.{Numbered, isPadding, Holds, Delivers};
 
 // The number of a codeword by the bits before its last ones and their value; 0 where it is above 4,294,967,295 by its length alone. Requires: the first

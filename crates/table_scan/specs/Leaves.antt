@@ -5,7 +5,7 @@ use mathlib.Core.List.{List}
 use Prim.Native.Nat.{ℕ, zero, suc, _≤_, _<_}
 use lib.Dec.{leb}
 use lib.ListN.{length}
-use Rattle.fibonacci.specs.Tables.{Firsts}
+use Rattle.fibonacci.specs.Leaves.{Firsts}
 use Rattle.calls.specs.declared.Refusal.{Refusal}
 use Rattle.calls.specs.declared.Refusal.the-variants.{TooManyCodewords, TooLarge}
 use Rattle.calls.specs.declared.CountAnswer.{CountAnswer}

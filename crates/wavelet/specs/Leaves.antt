@@ -9,7 +9,7 @@ use Rattle.lists.specs.Lists.{filter}
 use Rattle.bits.specs.Bits.{bitOf, unpack}
 use Rattle.calls.specs.Limits.{isOrder, isNumber, maxCount}
 use Rattle.fibonacci.specs.Code.{F, ones, Codeword, number, codeword}
-use Rattle.fibonacci.specs.Tables.{Positions}
+use Rattle.fibonacci.specs.Leaves.{Positions}
 use Rattle.wavelet.specs.Nodes.{isPrefix, Tree, prune, nodes}
 use Rattle.wavelet.specs.Bitmaps.{need}
 use Rattle.wavelet.specs.Questions.{maxAlphabet}

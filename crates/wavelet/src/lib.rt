@@ -5,7 +5,7 @@ ghost use Prim.Native.Nat.{_-_, _≤_, _<_};
 ghost use Rattle.bits.specs.Bits.{bitOf};
 ghost use Rattle.calls.specs.Calls.{accepted, countOutcome};
 ghost use Rattle.calls.specs.Limits.{isNumber};
-ghost use Rattle.fibonacci.specs.Tables.{Positions};
+ghost use Rattle.fibonacci.specs.Leaves.{Positions};
 ghost use Rattle.codewords.specs.Leaves.{Tables};
 ghost use Rattle.wavelet.specs.Questions.{maxAlphabet, checkTree};
 ghost use Rattle.wavelet.specs.Leaves.{SomeNode, nodeTest, sideOf, Aligned, Root};

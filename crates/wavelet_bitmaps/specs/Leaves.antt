@@ -9,7 +9,7 @@ use Rattle.lists.specs.Lists.{filter}
 use Rattle.bits.specs.Bits.{bitOf, unpack, count}
 use Rattle.fibonacci.specs.Code.{codeword}
 use Rattle.fibonacci.specs.Encoding.{Positive}
-use Rattle.fibonacci.specs.Tables.{Positions}
+use Rattle.fibonacci.specs.Leaves.{Positions}
 use Rattle.wavelet.specs.Nodes.{isPrefix, prune}
 use Rattle.wavelet.specs.Bitmaps.{joined, bitmaps}
 use Rattle.wavelet.specs.Questions.{maxAlphabet}

@@ -2,7 +2,7 @@
 ghost use Prim.Native.Nat.{_≤_};
 ghost use lib.ListN.{length};
 ghost use Rattle.calls.specs.Calls.{countOutcome};
-ghost use Rattle.fibonacci.specs.Tables.{Positions};
+ghost use Rattle.fibonacci.specs.Leaves.{Positions};
 ghost use Rattle.wavelet.specs.Questions.{maxAlphabet, BuildPromise};
 ghost use Rattle.wavelet_build.specs.Leaves.{Fills};
 use calls::CountAnswer;

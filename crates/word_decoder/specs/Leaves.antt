@@ -8,7 +8,7 @@ use lib.Seq.{slice}
 use Rattle.lists.specs.Lists.{sum}
 use Rattle.fibonacci.specs.Code.{runs, Codeword, number}
 use Rattle.fibonacci.specs.Encoding.{rowBits}
-use Rattle.fibonacci.specs.Tables.{Firsts}
+use Rattle.fibonacci.specs.Leaves.{Firsts}
 use Rattle.digit_tables.specs.Leaves.{byteValues}
 use Rattle.calls.specs.Limits.{Legal, maxNumber, maxCount, maxBytes}
 use Rattle.word_decoder.specs.declared.Progress.{Progress}

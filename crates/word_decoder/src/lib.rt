@@ -4,7 +4,7 @@ ghost use Prim.Native.Nat.{_≤_, _<_};
 ghost use lib.ListN.{length};
 ghost use Rattle.bits.specs.Bits.{unpack};
 ghost use Rattle.calls.specs.Limits.{maxNumber, maxBytes};
-ghost use Rattle.fibonacci.specs.Tables.{Firsts};
+ghost use Rattle.fibonacci.specs.Leaves.{Firsts};
 ghost use Rattle.word_decoder.specs.Leaves.{SegmentInput, Summed, EndsSegment, CountsInSpan, SpanTaken, RowTaken};
 
 // How far codewords were taken: up to which bit, and how many.

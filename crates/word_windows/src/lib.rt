@@ -4,7 +4,7 @@ ghost use Prim.Native.Nat.{_*_, _≤_};
 ghost use lib.ListN.{length};
 ghost use Rattle.bits.specs.Bits.{unpack};
 ghost use Rattle.calls.specs.Limits.{Order, maxNumber};
-ghost use Rattle.fibonacci.specs.Tables.{Firsts};
+ghost use Rattle.fibonacci.specs.Leaves.{Firsts};
 ghost use Rattle.digit_tables.specs.Leaves.{byteValues};
 ghost use Rattle.digit_values.specs.Leaves.{IsBody};
 ghost use Rattle.word_windows.specs.Leaves.{bodyNumber, ExactIfLegal, MarksRuns, LoadedWindow};

@@ -1,5 +1,6 @@
 use borrow.Author.Needs.{needs}
-use Rattle.bits.specs.Bits.{wordBits, putAt}
+use Rattle.bits.specs.Bits.{wordBits}
+use Rattle.bits.specs.Leaves.{putAt}
 use Rattle.bits.proofs.Words.{words-length}
 use Rattle.bits.proofs.Put.{put-stored}
 use Rattle.bit_writer.proofs.put_word.Statement.{statement}

@@ -1,7 +1,7 @@
 -- That the values are those of the definition is computed here, over the whole table.
 use mathlib.Core.Path.{_≡_, refl}
 use Rattle.fibonacci.specs.Code.{past, F}
-use Rattle.fibonacci.specs.Tables.{numberOrZero}
+use Rattle.fibonacci.specs.Leaves.{numberOrZero}
 use Rattle.byte_table.specs.Leaves.{twoBack, positionWords}
 use Rattle.byte_table.proofs.positions.Statement.{statement}
 use Rattle.byte_table.proofs.positions.Tie as tie

@@ -5,7 +5,8 @@ use Prim.Native.Nat.{ℕ, _+_, _-_, _*_, _≤_}
 use native.Mathlib.Omega.{arith}
 use lib.ListN.{length}
 use borrow.Author.Needs.{needs}
-use Rattle.bits.specs.Bits.{wordBits, unpack, byteCount, putTo, putAt}
+use Rattle.bits.specs.Bits.{wordBits, unpack, byteCount}
+use Rattle.bits.specs.Leaves.{putTo, putAt}
 use Rattle.bits.proofs.Words.{words-length}
 use Rattle.bits.proofs.Put.{put-within, put-part}
 use Rattle.calls.proofs.Checks.{number-is, legal-at}

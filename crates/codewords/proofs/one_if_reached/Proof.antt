@@ -7,7 +7,7 @@ use lib.ListN.{getD}
 use borrow.Author.Needs.{needs}
 use borrow.Author.Tests.{leb-true, leb-false}
 use Rattle.fibonacci.specs.Code.{first}
-use Rattle.fibonacci.specs.Tables.{numberOrZero}
+use Rattle.fibonacci.specs.Leaves.{numberOrZero}
 use Rattle.fibonacci.proofs.Lookup.{entry-at}
 use Rattle.codewords.proofs.Codewords.{reached-one, reached-none}
 use Rattle.codewords.proofs.one_if_reached.Statement.{statement}

@@ -2,7 +2,7 @@
 use mathlib.Core.Path.{refl}
 use mathlib.Core.List.{[]}
 use borrow.Author.Needs.{needs}
-use Rattle.fibonacci.specs.Tables.{recursAfter, recurs}
+use Rattle.fibonacci.specs.Leaves.{recursAfter, recurs}
 use Rattle.fibonacci.proofs.Lookup.{rows-recur}
 use Rattle.fibonacci.proofs.positions.Statement.{statement}
 use Rattle.fibonacci.proofs.positions.Reads as reads
