@@ -233,7 +233,7 @@ static void worked_total(size_t order, const char *hex, size_t a, size_t b, uint
     totals(order, s, unhex(hex, s), a, b, result);
 }
 
-/* Paper 01's knots to check by pencil, the open points of docs/DECISIONS.md, and each refusal. */
+/* Paper 01's knots to check by pencil, the open points of docs/READINGS.md, and each refusal. */
 static void worked_examples(void)
 {
     size_t m;
