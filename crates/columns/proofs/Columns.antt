@@ -7,31 +7,10 @@ use native.Mathlib.Numerals.{add-one}
 use native.Mathlib.Nat.{add-zero, pow-succ', pow-le-pow-right}
 use native.Mathlib.Decide.{decLe}
 use lib.ListN.{length, getD, drop, set, length-append, drop-of-length-le}
-use lib.Seq.{sets, set-comm, drop-cons}
+use lib.Seq.{sets, drop-cons}
 use borrow.Author.Tests.{ne-eqb}
+use Rattle.lists.proofs.Lists.{sets-last}
 use Rattle.columns.specs.Columns.{digit, leader, leading, column, decimal}
-
--- ## Lists
-
-module _ {A : Type 0} where
-  -- what is put after what was put
-  sets-append : (l : List A) (i : ℕ) (x y : List A) → sets (sets l i x) (i + length x) y ≡ sets l i (x ++ y)
-  sets-append l i [] y = rw add-zero
-  sets-append l i (a ∷ x) y =
-      let e : i + suc (length x) ≡ suc i + length x = omega arith in
-      ap (λ (k : ℕ). sets (sets (set l i a) (suc i) x) k y) e ∙ sets-append (set l i a) (suc i) x y
-
-  pub sets-then : (l : List A) {l₁ l₂ : List A} (i k : ℕ) (x y : List A) → l₁ ≡ sets l i x → l₂ ≡ sets l₁ k y → k ≡ i + length x → l₂ ≡ sets l i (x ++ y)
-  sets-then l i k x y e f h = f ∙ ap₂ (λ (o : List A) (j : ℕ). sets o j y) e h ∙ sets-append l i x y
-
-  -- the last element is put first
-  pub sets-last : (l : List A) (i : ℕ) (x : List A) (a : A) → sets l i (x ++ (a ∷ [])) ≡ sets (set l (i + length x) a) i x
-  sets-last l i [] a = rw add-zero
-  sets-last l i (b ∷ x) a =
-      let e : i + suc (length x) ≡ suc i + length x = omega arith in
-      sets-last (set l i b) (suc i) x a
-      ∙ ap (λ (k : List A). sets k (suc i) x)
-      (set-comm l i (suc i + length x) b a (λ (q : i ≡ suc i + length x). omega arith) ∙ ap (λ (k : ℕ). set (set l k a) i b) (sym e))
 
 -- ## Lengths
 

@@ -11,6 +11,7 @@ use lib.ListN.{length, getD, take, replicate, getD-replicate, length-replicate}
 use borrow.Author.Tests.{le-leb, lt-leb, leb-true, leb-false, eqb-true}
 use Rattle.lists.specs.Lists.{sum, valuesFrom}
 use Rattle.lists.proofs.Lists.{values-at}
+use Rattle.lists.proofs.Sums.{sum-none}
 use Rattle.fibonacci.specs.Code.{past, F, ones, first, size, codeword}
 use Rattle.calls.specs.Limits.{maxNumber, Order}
 use Rattle.calls.proofs.Checks.{both}
@@ -71,11 +72,6 @@ pub number-some : (x : ℕ) → (numberOrZero x ≡ 0 → ⊥) → x ≤ maxNumb
 number-some x e = elim (decLe x maxNumber) [ yes h ↦ h | no h ↦ absurd (e (number-zero x (omega arith))) ]
 
 -- ## The recurrence, carried to each entry
-
-sum-none : (es : List ℕ) → sum es ≡ 0 → (i : ℕ) → getD es i 0 ≡ 0
-sum-none [] e i = refl
-sum-none (x ∷ es) e zero = omega arith
-sum-none (x ∷ es) e (suc i) = sum-none es (omega arith) i
 
 -- entries that are left, after F(n), F(n - 1), ..
 after-at : (m n : ℕ) (before es : List ℕ) → 1 ≤ m → before ≡ past m n → recursAfter m before es ≡ true

@@ -9,6 +9,7 @@ use native.Mathlib.Decide.{decLe, le-ind}
 use lib.ListN.{length, take, replicate, length-reverse}
 use borrow.Author.Tests.{le-leb, lt-leb}
 use Rattle.lists.specs.Lists.{sum}
+use Rattle.lists.proofs.Sums.{sum-zeros}
 use Rattle.fibonacci.specs.Code.{past, F, value, leadingOnes, runs, digits}
 use Rattle.fibonacci.proofs.Runs.{runs-false, runs-true, runs-more, runs-grow}
 
@@ -25,11 +26,6 @@ F-suc m n = refl
 pub sumDown-suc : (m n i : ℕ) → sumDown m (suc n) (suc i) ≡ F m (suc n) + sumDown m n i
 unfolding F sumDown past
 sumDown-suc m n i = refl
-
-sum-zeros : (i m : ℕ) → sum (take i (replicate m 0)) ≡ 0
-sum-zeros zero m = refl
-sum-zeros (suc i) zero = refl
-sum-zeros (suc i) (suc m) = omega (arith, sum-zeros i m)
 
 pub sumDown-zero : (m i : ℕ) → 1 ≤ i → sumDown m 0 i ≡ 1
 unfolding sumDown past

@@ -6,7 +6,8 @@ use native.Mathlib.Omega.{arith}
 use native.Mathlib.Numerals.{add-one}
 use lib.ListN.{length, getD, drop, length-append, drop-of-length-le}
 use lib.Seq.{sets, drop-cons}
-use Rattle.columns.proofs.Columns.{column-length, sets-then}
+use Rattle.lists.proofs.Lists.{sets-then}
+use Rattle.columns.proofs.Columns.{column-length}
 use Rattle.fibonacci.specs.Code.{codeword}
 use Rattle.calls.specs.Limits.{maxNumber}
 use Rattle.listing_lines.specs.Lines.{header, rowLine, rowLines, lastLine, lines}

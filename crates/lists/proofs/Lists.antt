@@ -1,13 +1,13 @@
 -- Lists of any elements: what the library does not have.
-use mathlib.Core.Path.{_≡_, refl, sym, ap, _∙_}
+use mathlib.Core.Path.{_≡_, refl, sym, ap, ap₂, _∙_}
 use mathlib.Core.Bool.{Bool}
 use mathlib.Core.List.{List, [], _∷_, _++_, append-assoc, map, map-append, flatten}
 use Prim.Native.Nat.{ℕ, zero, suc, _+_, _-_, _≤_, _<_}
 use native.Mathlib.Omega.{arith}
 use native.Mathlib.Numerals.{add-one}
 use native.Mathlib.Nat.{add-zero, zero-add, suc-add}
-use lib.ListN.{length, getD, take, drop, set, length-append}
-use lib.Seq.{sets, take-take, take-suc, take-all, drop-at, paste-suc}
+use lib.ListN.{length, getD, take, drop, set, replicate, length-append}
+use lib.Seq.{sets, set-comm, take-nil, take-take, take-suc, take-all, drop-at, paste-suc}
 use Rattle.lists.specs.Lists.{valuesFrom}
 
 module _ {A : Type 0} where
@@ -65,3 +65,32 @@ pub tail-part : {A : Type 0} (e l : List A) (z : ℕ) → length e ≡ z → tak
 tail-part e l z h =
     ap (take (length (e ++ drop z l) - z)) (drop-at e (drop z l) z h)
     ∙ take-all (length (e ++ drop z l) - z) (drop z l) (omega (arith, length-append e (drop z l)))
+
+module _ {A : Type 0} where
+  -- what is put after what was put
+  pub sets-then : (l : List A) {l₁ l₂ : List A} (i k : ℕ) (x y : List A) → l₁ ≡ sets l i x → l₂ ≡ sets l₁ k y → k ≡ i + length x → l₂ ≡ sets l i (x ++ y)
+  sets-then l i k x y e f h = f ∙ ap₂ (λ (o : List A) (j : ℕ). sets o j y) e h ∙ sym (sets-append l i x y)
+
+  -- the last element is put first
+  pub sets-last : (l : List A) (i : ℕ) (x : List A) (a : A) → sets l i (x ++ (a ∷ [])) ≡ sets (set l (i + length x) a) i x
+  sets-last l i [] a = rw add-zero
+  sets-last l i (b ∷ x) a =
+      let e : i + suc (length x) ≡ suc i + length x = omega arith in
+      sets-last (set l i b) (suc i) x a
+      ∙ ap (λ (k : List A). sets k (suc i) x)
+      (set-comm l i (suc i + length x) b a (λ (q : i ≡ suc i + length x). omega arith) ∙ ap (λ (k : ℕ). set (set l k a) i b) (sym e))
+
+  -- what is dropped of a beginning
+  pub drop-take : (t n : ℕ) (l : List A) → drop t (take n l) ≡ take (n - t) (drop t l)
+  drop-take zero n l = let e : n ≡ n - 0 = omega arith in ap (λ (k : ℕ). take k l) e
+  drop-take (suc t) zero l = let e : 0 ≡ 0 - suc t = omega arith in ap (λ (k : ℕ). take k (drop (suc t) l)) e
+  drop-take (suc t) (suc n) [] = sym (take-nil (suc n - suc t))
+  drop-take (suc t) (suc n) (x ∷ l) = let e : n - t ≡ suc n - suc t = omega arith in drop-take t n l ∙ ap (λ (k : ℕ). take k (drop t l)) e
+
+  -- an element of what a list is filled up with is what is missing there
+  pub filled-default : (l : List A) (k i : ℕ) (z : A) → getD (l ++ replicate k z) i z ≡ getD l i z
+  filled-default [] zero i z = refl
+  filled-default [] (suc k) zero z = refl
+  filled-default [] (suc k) (suc i) z = filled-default [] k i z
+  filled-default (a ∷ l) k zero z = refl
+  filled-default (a ∷ l) k (suc i) z = filled-default l k i z

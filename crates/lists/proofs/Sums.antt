@@ -1,10 +1,10 @@
 -- Sums of numbers.
-use mathlib.Core.Path.{_≡_}
+use mathlib.Core.Path.{_≡_, refl}
 use mathlib.Core.List.{List, [], _∷_, _++_}
 use Prim.Native.Nat.{ℕ, zero, suc, _+_, _*_, _≤_}
 use native.Mathlib.Omega.{arith}
 use native.Mathlib.Nat.{suc-mul}
-use lib.ListN.{take, drop, replicate}
+use lib.ListN.{getD, take, drop, replicate}
 use Rattle.lists.specs.Lists.{sum}
 
 pub sum-append : (xs ys : List ℕ) → sum (xs ++ ys) ≡ sum xs + sum ys
@@ -27,3 +27,14 @@ sum-drop (suc n) (x ∷ l) = omega (arith, sum-drop n l)
 pub sum-same : (k n : ℕ) → sum (replicate k n) ≡ k * n
 sum-same zero n = omega arith
 sum-same (suc k) n = omega (arith, sum-same k n, suc-mul k n)
+
+pub sum-zeros : (i m : ℕ) → sum (take i (replicate m 0)) ≡ 0
+sum-zeros zero m = refl
+sum-zeros (suc i) zero = refl
+sum-zeros (suc i) (suc m) = omega (arith, sum-zeros i m)
+
+-- a sum of nothing
+pub sum-none : (es : List ℕ) → sum es ≡ 0 → (i : ℕ) → getD es i 0 ≡ 0
+sum-none [] e i = refl
+sum-none (x ∷ es) e zero = omega arith
+sum-none (x ∷ es) e (suc i) = sum-none es (omega arith) i

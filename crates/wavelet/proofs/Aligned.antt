@@ -6,6 +6,7 @@ use Prim.Native.Nat.{ℕ, zero, suc, _+_, _-_, _*_, _%_, _^_, _≤_, _<_}
 use native.Mathlib.Omega.{arith}
 use lib.ListN.{length, getD, replicate}
 use lib.Pow.{shl-lt, shl-exact}
+use Rattle.lists.proofs.Lists.{filled-default}
 use Rattle.bits.specs.Bits.{wordBits}
 use Rattle.bits.proofs.Words.{words-at, words-padded}
 use Rattle.fibonacci.specs.Code.{size, codeword}
@@ -15,18 +16,6 @@ use Rattle.fibonacci.proofs.Numbers.{codeword-size}
 use Rattle.wavelet.specs.Questions.{maxAlphabet}
 use Rattle.wavelet.specs.Leaves.{Aligned}
 use Rattle.wavelet.proofs.Cursors.{shallow}
-
--- zeros after a list are what is missing there
-zeros-on : (l : List Bool) (k i : ℕ) → getD (l ++ replicate k false) i false ≡ getD l i false
-zeros-on [] zero i = refl
-zeros-on [] (suc k) zero = refl
-zeros-on [] (suc k) (suc i) = zeros-on [] k i ∙ none i
-  where
-    none : (i : ℕ) → getD {A = Bool} [] i false ≡ getD {A = Bool} [] (suc i) false
-    none zero = refl
-    none (suc i) = refl
-zeros-on (a ∷ l) k zero = refl
-zeros-on (a ∷ l) k (suc i) = zeros-on l k i
 
 -- how long the codewords of the alphabet are
 pub aligned-short : (m n k : ℕ) → Order m → 1 ≤ n → n ≤ maxAlphabet → k ≡ length (codeword m n) → k ≤ 22
@@ -51,4 +40,4 @@ module _ (m n k w : ℕ) (long : k ≤ 32) (bits : wordBits k w ≡ codeword m n
       let x = w * 2 ^ (32 - k) in
       let all : wordBits 32 x ≡ codeword m n ++ replicate (32 - k) false =
       ap (λ (j : ℕ). wordBits j x) (sym e) ∙ words-padded k (32 - k) w ∙ ap (λ (l : List Bool). l ++ replicate (32 - k) false) bits in
-      rw shifted (sym (words-at 32 x s h) ∙ ap (λ (l : List Bool). getD l s false) all ∙ zeros-on (codeword m n) (32 - k) s)
+      rw shifted (sym (words-at 32 x s h) ∙ ap (λ (l : List Bool). getD l s false) all ∙ filled-default (codeword m n) (32 - k) s false)

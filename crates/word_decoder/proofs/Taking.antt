@@ -9,6 +9,7 @@ use lib.ListN.{length, getD, take, drop, replicate, length-append, length-drop, 
 use lib.Seq.{drop-drop, drop-append-le, take-append-le, take-take, length-take-le}
 use lib.Count.{leadingZeros}
 use Rattle.lists.proofs.Each.{all-append}
+use Rattle.lists.proofs.Lists.{drop-take, filled-default}
 use Rattle.bits.specs.Bits.{wordBits}
 use Rattle.bits.proofs.Words.{words-zero}
 use Rattle.fibonacci.specs.Code.{runs, value, first, number, codeword, Codeword}
@@ -21,9 +22,8 @@ use Rattle.fibonacci.proofs.Numbers.{first-pos, codeword-number, number-of}
 use Rattle.fibonacci.proofs.Rows.{bits-append}
 use Rattle.word_windows.specs.declared.Window.{Window}
 use Rattle.word_windows.specs.Leaves.{bodyNumber, ExactIfLegal, MarksRuns, runStarts, WindowAt, LoadedWindow}
-use Rattle.word_windows.proofs.Loading.{drop-take}
 use Rattle.word_decoder.specs.Leaves.{Taken, Stopped, full, short, pending, large}
-use Rattle.word_windows.proofs.Starts.{up, words-up, zeros-default, starts-zeros, starts-runs, starts-up, mark-one, mark-none, first-within, first-ends, first-coded, first-zero}
+use Rattle.word_windows.proofs.Starts.{up, words-up, starts-zeros, starts-runs, starts-up, mark-one, mark-none, first-within, first-ends, first-coded, first-zero}
 
 -- ## The first codeword of a word
 
@@ -59,7 +59,7 @@ module _ {b : List Bool} {k w : ℕ} (a : WindowAt b k w) where
   marked : (m y : ℕ) → 1 ≤ m → wordBits 64 y ≡ runStarts m (wordBits 64 w) → (i : ℕ) → getD (wordBits 64 y) i false ≡ getD (runStarts m windowBits) i false
   marked m y pos marks i =
       ap (λ (l : List Bool). getD l i false) (marks ∙ ap (runStarts m) (a .bits) ∙ starts-zeros m windowBits (a .others) pos)
-      ∙ zeros-default (runStarts m windowBits) (a .others) i
+      ∙ filled-default (runStarts m windowBits) (a .others) i false
 
   module _ (m y : ℕ) (pos : 1 ≤ m) (marks : wordBits 64 y ≡ runStarts m (wordBits 64 w)) (some : 1 ≤ y) (low : y < 2 ^ 64) where
     -- how many bits stand before the last ones of the first codeword
@@ -86,7 +86,7 @@ module _ {b : List Bool} {k w : ℕ} (a : WindowAt b k w) where
 
     pub word-zero : 1 ≤ body → getD (wordBits 64 w) (body - 1) false ≡ false
     word-zero h =
-        ap (λ (l : List Bool). getD l (body - 1) false) (a .bits) ∙ zeros-default windowBits (a .others) (body - 1) ∙ first-zero m pos windowBits body one none h
+        ap (λ (l : List Bool). getD l (body - 1) false) (a .bits) ∙ filled-default windowBits (a .others) (body - 1) false ∙ first-zero m pos windowBits body one none h
 
     pub word-number : number m word ≡ bodyNumber m w body
     word-number =
@@ -140,7 +140,7 @@ stopped-window {m} {limit} {b} {bit} {count} {most} w pos a none =
     at i = marked (a .window) m (w .starts) pos (a .marked .0) i
 
     zero-bits : (i : ℕ) → getD (wordBits 64 (w .starts)) i false ≡ false
-    zero-bits i = rw (none, words-zero 64) (zeros-default [] 64 i)
+    zero-bits i = rw (none, words-zero 64) (filled-default [] 64 i false)
 
 -- where not as many were taken as may be, it is not for how many they are
 pub stopped-before : {m limit : ℕ} {b : List Bool} {bit count most : ℕ} (count' most' : ℕ) → count < most → Stopped m limit b bit count most

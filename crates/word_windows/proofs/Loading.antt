@@ -6,17 +6,12 @@ use Prim.Native.Nat.{ℕ, zero, suc, _+_, _-_, _*_, _/_, _%_, _^_, _≤_}
 use native.Mathlib.Omega.{arith}
 use lib.ListN.{length, take, drop, replicate}
 use lib.Seq.{take-nil, drop-drop}
+use Rattle.lists.proofs.Lists.{drop-take}
 use Rattle.bits.specs.Bits.{wordBits, unpack}
 use Rattle.bits.proofs.Bytes.{unpack-take, unpack-drop, unpack-length}
 use Rattle.bits.proofs.Words.{words-zero}
 use Rattle.word_windows.specs.Leaves.{WindowAt}
 use Rattle.word_windows.proofs.Starts.{words-up}
-
-pub drop-take : {A : Type 0} (t n : ℕ) (l : List A) → drop t (take n l) ≡ take (n - t) (drop t l)
-drop-take zero n l = let e : n ≡ n - 0 = omega arith in ap (λ (k : ℕ). take k l) e
-drop-take (suc t) zero l = let e : 0 ≡ 0 - suc t = omega arith in ap (λ (k : ℕ). take k (drop (suc t) l)) e
-drop-take (suc t) (suc n) [] = sym (take-nil (suc n - suc t))
-drop-take (suc t) (suc n) (x ∷ l) = let e : n - t ≡ suc n - suc t = omega arith in drop-take t n l ∙ ap (λ (k : ℕ). take k (drop t l)) e
 
 -- ## A word is filled
 

@@ -13,6 +13,7 @@ use lib.Pow.{shr-shr}
 use lib.Bits.{bitAnd}
 use lib.Count.{leadingZeros, leading-top}
 use borrow.Author.Tests.{le-leb, lt-leb, leb-true, leb-false}
+use Rattle.lists.proofs.Lists.{filled-default}
 use Rattle.bits.specs.Bits.{bitValue, bitOf, wordBits}
 use Rattle.bits.proofs.Words.{bit-and, words-at, words-length, words-zero, words-split, words-mod, words-padded}
 use Rattle.fibonacci.specs.Code.{ones, leadingOnes, runs, Codeword}
@@ -32,13 +33,6 @@ words-up n x t h =
     words-mod n n (x * 2 ^ t) (omega arith) ∙ ap (λ (k : ℕ). wordBits k (x * 2 ^ t)) (sym e) ∙ words-padded (n - t) t x
     ∙ ap (λ (l : List Bool). l ++ replicate t false)
     (sym (ap (λ (k : ℕ). drop t (wordBits k x)) (sym f) ∙ ap (drop t) (words-split t (n - t) x) ∙ drop-at (wordBits t (x / 2 ^ (n - t))) (wordBits (n - t) x) t (words-length t (x / 2 ^ (n - t)))))
-
-pub zeros-default : (b : List Bool) (t i : ℕ) → getD (b ++ replicate t false) i false ≡ getD b i false
-zeros-default [] zero i = refl
-zeros-default [] (suc t) zero = refl
-zeros-default [] (suc t) (suc i) = zeros-default [] t i
-zeros-default (a ∷ b) t zero = refl
-zeros-default (a ∷ b) t (suc i) = zeros-default b t i
 
 -- ## Ones at the start
 
@@ -147,7 +141,7 @@ run-starts-join n j k x b l e p h w =
 
     moved : (i : ℕ) → getD (up k (runStarts j b)) i false ≡ leb j (leadingOnes (drop k (drop i b)))
     moved i =
-        zeros-default (drop k (runStarts j b)) k i ∙ getD-drop k (runStarts j b) i false ∙ starts-at j b (k + i) p
+        filled-default (drop k (runStarts j b)) k i false ∙ getD-drop k (runStarts j b) i false ∙ starts-at j b (k + i) p
         ∙ ap (λ (l : List Bool). leb j (leadingOnes l)) (ap (λ (d : ℕ). drop d b) (add-comm k i) ∙ sym (drop-drop k i b))
 
     at : (i : ℕ) → i < n → getD (wordBits n y) i false ≡ getD (runStarts (j + k) b) i false

@@ -2,7 +2,8 @@ use mathlib.Core.List.{[], _∷_, _++_}
 use Prim.Native.Nat.{_+_}
 use lib.ListN.{length-append}
 use Rattle.columns.specs.Columns.{column}
-use Rattle.columns.proofs.Columns.{column-length, sets-then}
+use Rattle.lists.proofs.Lists.{sets-then}
+use Rattle.columns.proofs.Columns.{column-length}
 use Rattle.listing_lines.specs.Lines.{rowLine}
 use borrow.Author.Needs.{needs}
 use Rattle.listing_lines.proofs.put_line.Statement.{statement}

@@ -4,7 +4,8 @@ use Prim.Native.Nat.{_+_, _*_}
 use native.Mathlib.Omega.{arith}
 use lib.ListN.{length, length-append}
 use Rattle.columns.specs.Columns.{ascii, column}
-use Rattle.columns.proofs.Columns.{column-length, sets-then}
+use Rattle.lists.proofs.Lists.{sets-then}
+use Rattle.columns.proofs.Columns.{column-length}
 use Rattle.listing_lines.specs.Lines.{header, rowLines, lastLine, lines}
 use Rattle.listing_lines.proofs.Lines.{rows-length}
 use borrow.Author.Needs.{needs}

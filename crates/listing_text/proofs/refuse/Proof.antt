@@ -4,7 +4,8 @@ use lib.ListN.{length-append}
 use Rattle.calls.specs.declared.CountAnswer.the-variants.{Count}
 use Rattle.calls.specs.Refusals.{reason}
 use Rattle.columns.specs.Columns.{ascii, column}
-use Rattle.columns.proofs.Columns.{column-length, sets-then}
+use Rattle.lists.proofs.Lists.{sets-then}
+use Rattle.columns.proofs.Columns.{column-length}
 use Rattle.listing_text.specs.Listing.{refusalLine}
 use Rattle.listing_text.proofs.Printing.{refusal-length, put-room, put-done, puts-same}
 use borrow.Author.Needs.{needs}
