@@ -137,25 +137,14 @@ fn descend(
     }
     let ones = wavelet_ends::ones_in(b, at, k);
     let one = takes_one(question, x, b, at, i, v.depth);
-    let start = wavelet_ends::start_of(positions, order, limit, v, k, ones, b, at, one);
-    if start > total {
-        return lost(start);
+    let from = wavelet_ends::start_of(positions, order, limit, v, k, ones, b, at, one);
+    if from > total {
+        return lost(from);
     }
     let side = wavelet::side(positions, order, v, one);
-    let count = count_on(one, k, ones);
+    let many = count_on(one, k, ones);
     let j = onward(question, b, at, i, one);
-    let found = descend(
-        positions,
-        order,
-        limit,
-        side,
-        count,
-        b,
-        start,
-        question,
-        x,
-        j,
-    );
+    let found = descend(positions, order, limit, side, many, b, from, question, x, j);
     if found.end > total {
         return found;
     }
