@@ -49,6 +49,7 @@ fn guess(order: usize, n: u64) -> usize
 }
 
 // 1 where the first number of d bits before the last ones is at most n, else 0: a number to add, so that `body_length` has no branch on n.
+// Requires: the order's first numbers, and a length that they reach to, which `body_length` shows.
 fn one_if_reached(firsts: &[u32; 47], order: usize, d: usize, n: u64) -> usize
     requires { ⌜ Firsts order (now firsts) × (d < 47) × (n ≤ maxNumber) ⌝ }
     ensures { λ r. ⌜ (r ≡ bitValue (leb (first order d) n)) × (r ≤ 1) ⌝ }
@@ -57,7 +58,8 @@ fn one_if_reached(firsts: &[u32; 47], order: usize, d: usize, n: u64) -> usize
     if x != 0 && x <= n { 1 } else { 0 }
 }
 
-// How many bits of the codeword of n stand before its last ones: the largest d whose first number is at most n.
+// How many bits of the codeword of n stand before its last ones: the largest d whose first number is at most n. Requires: the order's first numbers, and a legal
+// number.
 fn body_length(firsts: &[u32; 47], order: usize, n: u64) -> usize
     requires { ⌜ Firsts order (now firsts) × (1 ≤ n) × (n ≤ maxNumber) ⌝ }
     ensures { λ r. ⌜ (r + order ≡ length (codeword order n)) × (r + order ≤ 47) ⌝ }

@@ -115,7 +115,7 @@ fn byte_at(table: &[u8], i: usize) -> u8 {
     if i < table.len() { table[i] } else { b'\n' }
 }
 
-// Where the column that begins at a place ends.
+// Where the column that begins at a place ends. Requires: a place of the table, or its end, which whoever looks a column up has.
 fn end(table: &[u8], from: usize) -> usize
     requires { ⌜ from ≤ length (now table) ⌝ }
     ensures { λ r. ⌜ (from ≤ r) × (r ≤ length (now (table .entry))) ⌝ }

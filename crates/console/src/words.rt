@@ -20,7 +20,7 @@ fn is_blank(b: u8) -> bool {
     b == b' ' || b == b'\t' || b == b'\r'
 }
 
-// The first place from one on whose byte is a blank, or is none; else the length.
+// The first place from one on whose byte is a blank, or is none; else the length. Requires: a place of the line, or its end, as every place found here is.
 fn find(line: &[u8], from: usize, blank: bool) -> usize
     requires { ⌜ from ≤ length (now line) ⌝ }
     ensures { λ r. ⌜ (from ≤ r) × (r ≤ length (now (line .entry))) ⌝ }
@@ -149,7 +149,7 @@ fn cross(word: &[u8]) -> usize
     word.len()
 }
 
-// How often an element stands there: the number after its x, and else once.
+// How often an element stands there: the number after its x, and else once. Requires: where the element ends in the word, as it was found.
 fn times(word: &[u8], end: usize) -> Found
     requires { ⌜ end ≤ length (now word) ⌝ }
 {

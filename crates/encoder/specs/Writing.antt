@@ -12,7 +12,8 @@ use Rattle.calls.specs.Limits.{isOrder, maxNumber, maxCount, checkEach}
 use Rattle.encoder.specs.declared.WriteAnswer.{WriteAnswer}
 use Rattle.encoder.specs.declared.WriteAnswer.the-variants.{Written, Refused}
 
--- Write: 1 order not 2 to 6; 4 more than 4,096 numbers; 3 a number is 0, or above the largest number, which no number of 32 bits is; 5 the output is shorter than the encoding; else its bytes and bits
+-- Write: 1 order not 2 to 6; 4 more than 4,096 numbers; 3 a number is 0 (or above the largest, which none of 32 bits is); 5 the output is shorter than the
+-- encoding; else its bytes and bits
 unfoldable pub write : ℕ → List ℕ → ℕ → Outcome (ℕ × ℕ)
 write m row room =
     check BadOrder (not (isOrder m))
