@@ -1,7 +1,7 @@
 -- The table's rule, computed over the whole of it and carried to each row.
 use mathlib.Core.Path.{_≡_, refl, sym, ap, ap₂, _∙_}
 use mathlib.Core.List.{List}
-use Prim.Native.Nat.{ℕ, _+_, _*_, _/_, _%_, _<_}
+use Prim.Native.Nat.{ℕ, _+_, _/_, _%_, _<_}
 use native.Mathlib.Nat.{zero-add}
 use lib.ListN.{getD}
 use Rattle.lists.specs.Lists.{valuesFrom}

@@ -6,7 +6,7 @@ use lib.Dec.{leb, ltb}
 use lib.ListN.{length}
 use Rattle.calls.specs.declared.Refusal.{Refusal}
 use Rattle.calls.specs.declared.Refusal.the-variants.{TooManyBytes, TooManyCodewords, TooLarge, NoRoom}
-use Rattle.calls.specs.Calls.{Outcome, accepted, check, andThen}
+use Rattle.calls.specs.Calls.{Outcome, accepted, check}
 use Rattle.calls.specs.Limits.{maxCount}
 
 -- A code, as far as reading goes by it

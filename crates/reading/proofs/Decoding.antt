@@ -1,5 +1,5 @@
 -- When an encoding is read and what then is known of it; the answers of a reader by what it found.
-use mathlib.Core.Path.{_≡_, refl, sym, ap, ap₂, _∙_}
+use mathlib.Core.Path.{_≡_, refl, sym, ap, _∙_}
 use mathlib.Core.Bool.{Bool, true, false, not}
 use mathlib.Core.List.{List, _++_}
 use Prim.Native.Nat.{ℕ, _≤_, _<_}
@@ -9,12 +9,11 @@ use lib.ListN.{length, drop}
 use borrow.Author.Tests.{lt-ltb, le-ltb, ltb-false, leb-false, not-false}
 use Rattle.bits.specs.Bits.{unpack, count}
 use Rattle.fibonacci.specs.Encoding.{rest, parse, numbers}
-use Rattle.calls.specs.declared.Refusal.{Refusal}
 use Rattle.calls.specs.declared.Refusal.the-variants.{BadOrder, TooManyBytes, NoRoom, BadRest}
 use Rattle.calls.specs.Calls.{Outcome, accepted, refused, check}
 use Rattle.calls.specs.Limits.{isOrder, Order, Legal, maxNumber, maxCount, maxBytes}
 use Rattle.calls.specs.Reading.{contents, decode, counted}
-use Rattle.calls.proofs.Checks.{neither, order-is, is-order, check-passed, then-passed, accepted-one}
+use Rattle.calls.proofs.Checks.{neither, order-is, check-passed, then-passed, accepted-one}
 use Rattle.calls.proofs.Finished.{finished-all, finished-passed}
 use Rattle.reading.proofs.Checking.{rest-good, numbers-positive}
 use Rattle.reading.specs.Reading.{isBadRest, fibonacci, read, readInto}
