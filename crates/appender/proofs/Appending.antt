@@ -1,5 +1,5 @@
 -- What appending answers and leaves behind.
-use mathlib.Core.Path.{_≡_, refl, sym, ap, ap₂, _∙_}
+use mathlib.Core.Path.{_≡_, refl, sym, ap, _∙_}
 use mathlib.Core.Bool.{Bool, true, false, not}
 use mathlib.Core.List.{List, [], _∷_, _++_}
 use Prim.Native.Nat.{ℕ, suc, _+_, _*_, _≤_, _<_}
@@ -7,7 +7,7 @@ use native.Mathlib.Omega.{arith}
 use lib.Dec.{leb, ltb}
 use lib.ListN.{length, take, drop, length-append}
 use lib.Seq.{length-take-le, take-append-seam, take-take}
-use borrow.Author.Tests.{le-leb, lt-leb, lt-ltb, le-ltb, ltb-false, leb-false, not-false}
+use borrow.Author.Tests.{le-leb, lt-leb, lt-ltb, le-ltb, ltb-false, not-false}
 use Rattle.bits.specs.Bits.{Bytes, byteCount, unpack, pack}
 use Rattle.bits.specs.Leaves.{putAt}
 use Rattle.bits.proofs.Bytes.{unpack-length, unpack-take}
@@ -18,10 +18,10 @@ use Rattle.fibonacci.specs.Encoding.{rowBits, encoding, rest, parse, numbers}
 use Rattle.fibonacci.proofs.Rows.{numbers-bits}
 use Rattle.calls.specs.declared.Refusal.{Refusal}
 use Rattle.calls.specs.declared.Refusal.the-variants.{BadOrder, PastBuffer, BadNumber, FullRow, NoRoom}
-use Rattle.calls.specs.Calls.{Outcome, accepted, refused, buffer}
+use Rattle.calls.specs.Calls.{accepted, refused}
 use Rattle.calls.specs.Limits.{isOrder, Order, isNumber, isOutside, maxNumber, maxCount, maxBytes}
 use Rattle.calls.specs.Reading.{decode}
-use Rattle.calls.proofs.Checks.{order-is, is-order, number-inside, number-outside, check-passed, then-passed, accepted-one}
+use Rattle.calls.proofs.Checks.{order-is, number-inside, number-outside, check-passed, then-passed, accepted-one}
 use Rattle.reading.specs.Reading.{fibonacci}
 use Rattle.reading.proofs.Decoding.{decode-is}
 use Rattle.codeword_writer.proofs.Rows.{bits-snoc}

@@ -1,10 +1,9 @@
 -- What is decided before a buffer is touched: for the contracts of the functions that decide it. No operation's promise cites it.
 use mathlib.Core.Path.{_≡_}
 use mathlib.Core.List.{List}
-use Prim.Native.Nat.{ℕ, _^_, _≤_, _<_}
+use Prim.Native.Nat.{ℕ}
 use lib.ListN.{length, take}
-use Rattle.bits.specs.Bits.{wordBits, unpack}
-use Rattle.fibonacci.specs.Code.{codeword}
+use Rattle.bits.specs.Bits.{unpack}
 use Rattle.fibonacci.specs.Encoding.{rowBits, numbers}
 use Rattle.codewords.specs.Leaves.{Codes}
 use Rattle.calls.specs.Calls.{accepted, refused}

@@ -7,7 +7,7 @@ use Prim.Native.Nat.{ℕ, zero, suc, _+_, _-_, _*_, _/_, _%_, _≤_, _<_}
 use native.Mathlib.Omega.{arith}
 use native.Mathlib.Decide.{decLe}
 use lib.ListN.{length, take, drop, length-take, length-drop, take-append-drop}
-use lib.Seq.{length-take-le, take-all, drop-at, take-add, take-take, drop-drop}
+use lib.Seq.{length-take-le, take-all, drop-drop}
 use Rattle.lists.proofs.Lists.{take-inner}
 use Rattle.bits.specs.Bits.{unpack, bitValue, sameBit, count, selectBit}
 use Rattle.bits.proofs.Bytes.{unpack-drop}

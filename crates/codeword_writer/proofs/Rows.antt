@@ -10,7 +10,7 @@ use lib.Seq.{take-suc, take-all, drop-cons}
 use Rattle.bits.specs.Bits.{byteCount}
 use Rattle.bits.specs.Leaves.{putTo, putAt}
 use Rattle.bits.proofs.Put.{Filled, filled-none, filled-more, filled-end}
-use Rattle.fibonacci.specs.Code.{size, codeword}
+use Rattle.fibonacci.specs.Code.{codeword}
 use Rattle.fibonacci.specs.Encoding.{rowBits}
 use Rattle.calls.specs.declared.Refusal.the-variants.{BadNumber}
 use Rattle.calls.specs.Calls.{accepted, refused}

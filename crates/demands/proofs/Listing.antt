@@ -1,22 +1,21 @@
 -- What holds of every listing.
-use mathlib.Core.Path.{_≡_, refl, sym, ap, _∙_}
+use mathlib.Core.Path.{_≡_, refl, sym, ap}
 use mathlib.Core.Bool.{Bool, true, false, not}
 use mathlib.Core.List.{List, [], _∷_, _++_}
 use mathlib.Core.Logic.{_⊎_, inl, inr, ⊎-elim}
-use Prim.Native.Nat.{ℕ, suc, _+_, _*_, _/_, _≤_}
+use Prim.Native.Nat.{ℕ, suc, _+_, _*_, _≤_}
 use native.Mathlib.Omega.{arith}
-use native.Mathlib.Decide.{decLe}
 use lib.Dec.{ltb}
 use lib.ListN.{length, getD, drop, length-drop}
-use borrow.Author.Tests.{le-ltb, ltb-true, ltb-false, not-false}
+use borrow.Author.Tests.{le-ltb, ltb-false, not-false}
 use Rattle.bits.proofs.Packing.{pack-length}
 use Rattle.columns.proofs.Columns.{column-number}
 use Rattle.calls.specs.declared.Refusal.{Refusal}
 use Rattle.calls.specs.declared.Refusal.the-variants.{BadOrder, BadNumber, TooManyNumbers, NoRoom, TooMuchInput, BadLine}
 use Rattle.calls.specs.Refusals.{reason}
-use Rattle.calls.specs.Calls.{Outcome, accepted, refused, check, andThen}
+use Rattle.calls.specs.Calls.{Outcome, accepted, refused, check}
 use Rattle.calls.specs.Limits.{isOrder, Order, isOutside, Legal, maxNumber, maxCount, maxBytes, checkEach}
-use Rattle.calls.proofs.Checks.{order-is, number-is, inside-number, not-both, accepted-one, told-refused}
+use Rattle.calls.proofs.Checks.{order-is, number-is, inside-number, not-both, told-refused}
 use Rattle.fibonacci.specs.Code.{codeword}
 use Rattle.fibonacci.specs.Encoding.{rowBits, encoding}
 use Rattle.fibonacci.proofs.Lookup.{codeword-short}

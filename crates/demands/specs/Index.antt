@@ -1,7 +1,7 @@
 -- What holds of the row index for every order m and alphabet N (paper 01, "The row index"; demand 2: the index answers what the row itself would answer).
 use mathlib.Core.Path.{_≡_}
 use mathlib.Core.Bool.{Bool, true, false}
-use mathlib.Core.List.{List, [], _∷_, _++_, List·Mem, List·Nodup}
+use mathlib.Core.List.{List, _∷_, _++_, List·Mem, List·Nodup}
 use mathlib.Core.Logic.{_↔_}
 use Prim.Native.Nat.{ℕ, suc, _≤_}
 use lib.Dec.{leb, ltb, eqb}

@@ -8,7 +8,7 @@ use lib.ListN.{length, drop}
 use Rattle.lists.specs.Lists.{All}
 use Rattle.columns.specs.Columns.{column, decimal}
 use Rattle.calls.specs.declared.Refusal.{Refusal}
-use Rattle.calls.specs.declared.Refusal.the-variants.{BadOrder, BadNumber, TooLarge, TooMuchInput, BadLine}
+use Rattle.calls.specs.declared.Refusal.the-variants.{BadOrder, BadNumber, TooMuchInput, BadLine}
 use Rattle.calls.specs.Refusals.{reason}
 use Rattle.calls.specs.Calls.{accepted, refused}
 use Rattle.calls.specs.Limits.{maxBytes}

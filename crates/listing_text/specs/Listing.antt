@@ -1,12 +1,11 @@
 -- The listing of a row (paper 01, "The listing"; "When a call says no": Listing program).
 use mathlib.Core.Path.{_≡_}
 use mathlib.Core.Bool.{not}
-use mathlib.Core.List.{List, [], _∷_, _++_}
-use Prim.Native.Nat.{ℕ, suc, _+_, _≤_}
+use mathlib.Core.List.{List, _++_}
+use Prim.Native.Nat.{ℕ, _+_}
 use lib.Dec.{ltb}
 use lib.ListN.{length, getD, drop}
-use Rattle.columns.specs.Columns.{ascii, column, decimal}
-use Rattle.fibonacci.specs.Code.{codeword}
+use Rattle.columns.specs.Columns.{ascii, column}
 use Rattle.calls.specs.declared.Refusal.the-variants.{TooMuchInput, BadLine}
 use Rattle.calls.specs.declared.CountAnswer.{CountAnswer}
 use Rattle.calls.specs.Refusals.{reason}

@@ -8,7 +8,7 @@ use native.Mathlib.Numerals.{add-one}
 use lib.Dec.{leb}
 use borrow.Author.Tests.{leb-false}
 use Rattle.fibonacci.specs.Code.{past, F, first}
-use Rattle.calls.specs.Limits.{maxNumber, Order}
+use Rattle.calls.specs.Limits.{Order}
 use Rattle.fibonacci.proofs.Numbers.{first-suc, first-rises, F-first}
 use Rattle.fibonacci.proofs.Lookup.{each-order, first-within}
 use Rattle.wavelet.specs.Questions.{maxAlphabet}

@@ -1,5 +1,5 @@
 -- The nodes of the tree of 1 .. N: the strings after which both a 0 and a 1 go on; there are N - 1, the digits of the codewords of 2 .. N.
-use mathlib.Core.Path.{_≡_, refl, sym, ap, _∙_, subst}
+use mathlib.Core.Path.{_≡_, refl, sym, ap, _∙_}
 use mathlib.Core.Bool.{Bool, true, false, _&&_, Bool-set, true≢false, false≢true}
 use mathlib.Core.HLevel.{⊥-prop}
 use mathlib.Core.List.{List, [], _∷_, _++_, append-assoc, append-nil}

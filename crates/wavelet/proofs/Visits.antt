@@ -1,5 +1,5 @@
 -- The visits of a number, counted in the tree: the nodes that begin its codeword.
-use mathlib.Core.Path.{_≡_, refl, sym, ap, _∙_}
+use mathlib.Core.Path.{_≡_, refl, sym, ap}
 use mathlib.Core.Bool.{Bool, true, false, true≢false}
 use mathlib.Core.HLevel.{⊥-prop}
 use mathlib.Core.Logic.{⊎-elim, _↔_, ∥∥₁-elim}
@@ -7,7 +7,6 @@ use mathlib.Core.List.{List, [], _∷_, map, List·Mem, List·Memᴰ, List·Mem�
 use mathlib.Core.List.{List·Mem-prop, List·Nodup, Pairwise·nil, not-mem-nil, nodup-cons}
 use Prim.Native.Nat.{ℕ, _≤_}
 use native.Mathlib.Omega.{arith}
-use lib.ListN.{length}
 use Rattle.lists.specs.Lists.{filter}
 use Rattle.lists.proofs.Members.{same-members, filter-in, in-filter, filter-once, map-once}
 use Rattle.bits.specs.Bits.{sameBit}

@@ -17,7 +17,7 @@ use Rattle.calls.proofs.Checks.{both}
 use Rattle.fibonacci.proofs.Numeration.{F-pos}
 use Rattle.wavelet.specs.Nodes.{isPrefix, leaf, prune}
 use Rattle.wavelet.specs.Questions.{maxAlphabet}
-use Rattle.wavelet.specs.Leaves.{CursorAt, IsCursor, SomeNode, nodeTest, sideOf, ends, Ends, Starts, Closes}
+use Rattle.wavelet.specs.Leaves.{CursorAt, IsCursor, SomeNode, nodeTest, sideOf, Ends, Starts, Closes}
 use Rattle.wavelet.specs.declared.Cursor.{Cursor}
 use Rattle.wavelet.proofs.Pruned.{cursor-low, cursor-node, cursor-high, cursor-full, high-only, full-only}
 use Rattle.wavelet.proofs.Cursors.{deep, step-small}

@@ -9,7 +9,7 @@ use lib.Dec.{eqb}
 use lib.ListN.{length, length-map}
 use lib.Seq.{take-all}
 use borrow.Author.Tests.{le-leb, lt-leb, lt-ltb, le-ltb, eq-eqb, ne-eqb}
-use Rattle.bits.specs.Bits.{count, selectBit}
+use Rattle.bits.specs.Bits.{count}
 use Rattle.bits.proofs.Select as bit
 use Rattle.calls.specs.declared.Refusal.{Refusal}
 use Rattle.calls.specs.declared.Refusal.the-variants.{BadPlace, BadUse, OutsideAlphabet, TooFewUses}

@@ -9,7 +9,7 @@ use native.Mathlib.Decide.{decLe}
 use lib.ListN.{length, take, drop, replicate}
 use lib.Seq.{take-take}
 use denote.Enum.Declared.{tagOf}
-use Rattle.bits.specs.Bits.{bitOf, count, selectBit}
+use Rattle.bits.specs.Bits.{bitOf, count}
 use Rattle.fibonacci.specs.Code.{codeword}
 use Rattle.wavelet.specs.Nodes.{isPrefix, Tree, node}
 use Rattle.wavelet.specs.Bitmaps.{need, rowOfBitmaps}

@@ -1,11 +1,11 @@
 -- How a word is filled with the next bits of an encoding.
-use mathlib.Core.Path.{_≡_, refl, sym, ap, _∙_}
+use mathlib.Core.Path.{_≡_, refl, ap, _∙_}
 use mathlib.Core.Bool.{Bool, false}
-use mathlib.Core.List.{List, [], _∷_, _++_}
-use Prim.Native.Nat.{ℕ, zero, suc, _+_, _-_, _*_, _/_, _%_, _^_, _≤_}
+use mathlib.Core.List.{List, _++_}
+use Prim.Native.Nat.{ℕ, _+_, _-_, _*_, _/_, _%_, _^_, _≤_}
 use native.Mathlib.Omega.{arith}
 use lib.ListN.{length, take, drop, replicate}
-use lib.Seq.{take-nil, drop-drop}
+use lib.Seq.{drop-drop}
 use Rattle.lists.proofs.Lists.{drop-take}
 use Rattle.bits.specs.Bits.{wordBits, unpack}
 use Rattle.bits.proofs.Bytes.{unpack-take, unpack-drop, unpack-length}
