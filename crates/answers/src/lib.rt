@@ -6,7 +6,7 @@ ghost use Rattle.totals.specs.Totals.{totalOutcome};
 ghost use Rattle.encoder.specs.Writing.{writeOutcome};
 ghost use Rattle.appender.specs.Appending.{appendOutcome};
 ghost use Rattle.wavelet.specs.Answers.{questionOutcome};
-ghost use Rattle.answers.specs.Answers.{five, single, pair, values};
+ghost use Rattle.answers.specs.Leaves.{five, single, pair, values};
 use appender::AppendAnswer;
 use calls::CountAnswer;
 use encoder::WriteAnswer;

@@ -15,7 +15,7 @@ use Rattle.bits.proofs.Packing.{pack-length}
 use Rattle.bits.proofs.Put.{put-packed}
 use Rattle.fibonacci.specs.Code.{codeword}
 use Rattle.fibonacci.specs.Encoding.{rowBits, encoding, rest, parse, numbers}
-use Rattle.fibonacci.proofs.Rows.{numbers-bits}
+use Rattle.fibonacci.proofs.Rows.{numbers-bits, bits-snoc}
 use Rattle.calls.specs.declared.Refusal.{Refusal}
 use Rattle.calls.specs.declared.Refusal.the-variants.{BadOrder, PastBuffer, BadNumber, FullRow, NoRoom}
 use Rattle.calls.specs.Calls.{accepted, refused}
@@ -24,7 +24,6 @@ use Rattle.calls.specs.Reading.{decode}
 use Rattle.calls.proofs.Checks.{order-is, number-inside, number-outside, check-passed, then-passed, accepted-one}
 use Rattle.reading.specs.Reading.{fibonacci}
 use Rattle.reading.proofs.Decoding.{decode-is}
-use Rattle.codeword_writer.proofs.Rows.{bits-snoc}
 use Rattle.appender.specs.Appending.{extend, append, appendInto}
 use Rattle.appender.specs.Leaves.{PlansAfter, Plans}
 use Rattle.appender.specs.declared.Planned.{Planned}

@@ -15,8 +15,8 @@ use Rattle.reading.specs.Reading.{fibonacci}
 use Rattle.appender.specs.declared.AppendAnswer.{AppendAnswer}
 use Rattle.appender.specs.declared.AppendAnswer.the-variants.{Appended, Refused}
 
--- A number more after a row, in a buffer with so much room: 3 the number is 0; 4 the row has 4,096 already; 5 the longer encoding passes the buffer; else
--- the new bytes in use and the new count
+-- A number more after a row, in a buffer with so much room: 3 the number is 0 (or above the largest, which none of 32 bits is); 4 the row has 4,096 already;
+-- 5 the longer encoding passes the buffer; else the new bytes in use and the new count
 unfoldable pub extend : ℕ → ℕ → List ℕ → ℕ → Outcome (ℕ × ℕ)
 extend m room row n =
     check (BadNumber 0) (isOutside maxNumber n)

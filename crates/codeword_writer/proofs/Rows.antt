@@ -1,7 +1,7 @@
 -- A row, number by number: its check, the length of its bits, and the bits put into a buffer.
 use mathlib.Core.Path.{_≡_, refl, sym, ap, _∙_}
 use mathlib.Core.Bool.{Bool, true, false}
-use mathlib.Core.List.{List, [], _∷_, _++_, append-nil, flatten}
+use mathlib.Core.List.{List, [], _∷_, _++_, flatten}
 use Prim.Native.Nat.{ℕ, _+_, _*_, _≤_, _<_}
 use native.Mathlib.Omega.{arith}
 use native.Mathlib.Numerals.{add-one}
@@ -14,15 +14,9 @@ use Rattle.fibonacci.specs.Code.{codeword}
 use Rattle.fibonacci.specs.Encoding.{rowBits}
 use Rattle.calls.specs.declared.Refusal.the-variants.{BadNumber}
 use Rattle.calls.specs.Calls.{accepted, refused}
-use Rattle.calls.specs.Limits.{isNumber, Order, Legal, maxNumber, checkEach}
-use Rattle.calls.proofs.Checks.{number-is, each-more, each-fault}
-use Rattle.fibonacci.proofs.Rows.{bits-append}
-use Rattle.fibonacci.proofs.Lookup.{codeword-short}
-
--- a number more
-pub bits-snoc : (m : ℕ) (row : List ℕ) (n : ℕ) → rowBits m (row ++ (n ∷ [])) ≡ rowBits m row ++ codeword m n
-unfolding rowBits flatten
-bits-snoc m row n = bits-append m row (n ∷ []) ∙ ap (λ (b : List Bool). rowBits m row ++ b) (append-nil (codeword m n))
+use Rattle.calls.specs.Limits.{isNumber, checkEach}
+use Rattle.calls.proofs.Checks.{each-more, each-fault}
+use Rattle.fibonacci.proofs.Rows.{bits-append, bits-snoc}
 
 -- ## The number n at place i
 
@@ -45,14 +39,6 @@ bits-split m i row = ap (rowBits m) (sym (take-append-drop i row)) ∙ bits-appe
 bits-end : (m i : ℕ) (row : List ℕ) → length row ≤ i → rowBits m (drop i row) ≡ []
 unfolding rowBits flatten
 bits-end m i row h = rw (drop-of-length-le row {i = i} h)
-
--- a codeword of a legal number has at most 47 bits
-pub bits-few : (m : ℕ) (row : List ℕ) → Order m → Legal maxNumber row → length (rowBits m row) ≤ 47 * length row
-unfolding rowBits flatten
-bits-few m [] o a = omega arith
-bits-few m (n ∷ row) o a =
-    let p = number-is maxNumber n (a .0) in
-    omega (arith, length-append (codeword m n) (rowBits m row), codeword-short m n o (p .0) (p .1), bits-few m row o (a .1))
 
 -- ## Measuring
 

@@ -5,9 +5,11 @@ use mathlib.Core.List.{List, [], _∷_, _++_}
 use mathlib.Core.Logic.{_⊎_, inl, inr, ⊎-elim}
 use Prim.Native.Nat.{ℕ, suc, _+_, _*_, _≤_}
 use native.Mathlib.Omega.{arith}
+use native.Mathlib.Decide.{decLe}
 use lib.Dec.{ltb}
-use lib.ListN.{length, getD, drop, length-drop}
-use borrow.Author.Tests.{le-ltb, ltb-false, not-false}
+use lib.ListN.{length, getD, take, drop, length-take, length-drop}
+use lib.Seq.{take-all}
+use borrow.Author.Tests.{lt-ltb, le-ltb, ltb-false, not-false}
 use Rattle.bits.proofs.Packing.{pack-length}
 use Rattle.columns.proofs.Columns.{column-number}
 use Rattle.calls.specs.declared.Refusal.{Refusal}
@@ -18,8 +20,8 @@ use Rattle.calls.specs.Limits.{isOrder, Order, isOutside, Legal, maxNumber, max
 use Rattle.calls.proofs.Checks.{order-is, number-is, inside-number, not-both, told-refused}
 use Rattle.fibonacci.specs.Code.{codeword}
 use Rattle.fibonacci.specs.Encoding.{rowBits, encoding}
+use Rattle.fibonacci.proofs.Rows.{bits-few}
 use Rattle.fibonacci.proofs.Lookup.{codeword-short}
-use Rattle.codeword_writer.proofs.Rows.{bits-few}
 use Rattle.encoder.specs.Writing.{write}
 use Rattle.encoder.proofs.Writing.{write-is}
 use Rattle.listing_input.specs.Input.{maxInputBytes, fields, isInput}
@@ -98,6 +100,16 @@ refused-text s before r e h =
     let long = refusal-length (reason r .0) in
     rw (e, long, le-ltb (length before) 8 h) (refl, ap (λ (k : ℕ). refusalLine (reason r .0) ++ drop k before) long)
 
+-- ## As much of an input as is read
+
+first-bytes : (s : List ℕ) → text (take 45068 s) ≡ text s
+unfolding text listing
+first-bytes s =
+    elim (decLe (length s) 45068) [
+      | yes h ↦ ap text (take-all 45068 s h)
+      | no h ↦ rw (lt-ltb maxInputBytes (length s) (omega arith), lt-ltb maxInputBytes (length (take 45068 s)) (omega (arith, length-take 45068 s)))
+    ]
+
 -- ## Digits
 
 lines-whole : (m place total : ℕ) (row : List ℕ) → Order m → Legal maxNumber row → place + length row ≤ maxCount → total ≤ maxNumber * place
@@ -124,6 +136,7 @@ listing-demand =
       are-lines = are-lines;
       refusals = refusals;
       refused-text = refused-text;
+      first-bytes = first-bytes;
       text-fits = text-fits;
       nothing-cut = nothing-cut;
     }

@@ -2,27 +2,23 @@
 use mathlib.Core.Path.{_≡_, refl, sym, ap, ap₂, _∙_}
 use mathlib.Core.Bool.{Bool, true, false}
 use mathlib.Core.List.{List, [], _∷_, _++_, append-assoc, append-nil, flatten}
-use Prim.Native.Nat.{ℕ, zero, suc, _+_, _-_, _*_, _≤_}
+use Prim.Native.Nat.{ℕ, suc, _+_, _-_, _≤_}
 use native.Mathlib.Omega.{arith}
 use lib.ListN.{length, take, drop, replicate, length-append, length-drop, length-replicate}
-use lib.Seq.{take-all, take-append-seam, drop-append-add, drop-drop}
-use Rattle.lists.specs.Lists.{sum}
-use Rattle.lists.proofs.Sums.{sum-same}
+use lib.Seq.{take-append-seam, drop-append-add, drop-drop}
 use Rattle.bits.specs.Bits.{Bytes, unpack, bytesOf, pack, padding, count}
 use Rattle.bits.proofs.Bytes.{unpack-length}
 use Rattle.bits.proofs.Packing.{unpack-pack, padding-below, pack-length, pack-bytes, unpack-apart}
 use Rattle.bits.proofs.Count.{zeros-none, none-zeros}
 use Rattle.fibonacci.specs.Encoding.{rowBits, encoding, rest, parse}
-use Rattle.calls.proofs.Checks.{is-order, is-number, positive}
+use Rattle.calls.proofs.Checks.{is-order, positive}
 use Rattle.calls.specs.Calls.{accepted}
 use Rattle.calls.specs.Limits.{Order, isNumber, Legal, maxNumber, maxCount}
 use Rattle.calls.specs.Reading.{decode}
-use Rattle.fibonacci.proofs.Rows.{bits-append, numbers-bits, encoding-parse, encoding-read}
+use Rattle.fibonacci.proofs.Rows.{bits-append, numbers-bits, encoding-parse, encoding-read, bits-few}
 use Rattle.reading.specs.Reading.{fibonacci, read, readInto}
 use Rattle.reading.proofs.Decoding.{decode-is, decode-accepts, read-is, read-row}
-use Rattle.totals.specs.Totals.{total, repeatedTotal}
 use Rattle.encoder.specs.Writing.{write, writeInto}
-use Rattle.codeword_writer.proofs.Rows.{bits-few}
 use Rattle.encoder.proofs.Writing.{Writable, write-is, write-accepts}
 use Rattle.appender.specs.Appending.{append, appendInto}
 use Rattle.demands.specs.RoundTrip.{RoundTrip, appendAll}
@@ -180,28 +176,3 @@ appended-written m row before bytes bits e =
 
 pub round-trip : (m : ℕ) → RoundTrip m
 round-trip m = record { written-read = written-read m; read-written = read-written m; appended-written = appended-written m }
-
--- ## The largest totals
-
--- as many of the largest number as a row can have
-abbrev pub largestRow : List ℕ
-largestRow = replicate maxCount maxNumber
-
-pub legal-same : (k n : ℕ) → isNumber maxNumber n ≡ true → Legal maxNumber (replicate k n)
-legal-same zero n e = tt
-legal-same (suc k) n e = (e, legal-same k n e)
-
-decode-largest : (m : ℕ) → Order m → decode (fibonacci m) maxNumber (encoding m largestRow) ≡ accepted largestRow
-decode-largest m o =
-    decode-encoding m largestRow o (omega (arith, length-replicate maxCount maxNumber)) (legal-same maxCount maxNumber (is-number maxNumber maxNumber (omega arith) (omega arith)))
-
--- they are reached, and exact
-pub total-largest : (m : ℕ) → Order m → total m (encoding m largestRow) 0 maxCount ≡ accepted 17592186040320
-unfolding total
-total-largest m o =
-    let l = length-replicate maxCount maxNumber in
-    rw (is-order m o, decode-largest m o) (ap accepted (ap sum (take-all maxCount largestRow (omega arith)) ∙ sum-same maxCount maxNumber))
-
-pub repeated-largest : (m : ℕ) → Order m → repeatedTotal m (encoding m largestRow) 10000 ≡ accepted 175921860403200000
-unfolding repeatedTotal
-repeated-largest m o = rw (is-order m o, decode-largest m o) (ap (λ (x : ℕ). accepted (10000 * x)) (sum-same maxCount maxNumber))

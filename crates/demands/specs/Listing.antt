@@ -4,7 +4,7 @@ use mathlib.Core.Bool.{true}
 use mathlib.Core.List.{List, [], _∷_, _++_}
 use mathlib.Core.Logic.{_⊎_}
 use Prim.Native.Nat.{ℕ, suc, _+_, _^_, _≤_, _<_}
-use lib.ListN.{length, drop}
+use lib.ListN.{length, take, drop}
 use Rattle.lists.specs.Lists.{All}
 use Rattle.columns.specs.Columns.{column, decimal}
 use Rattle.calls.specs.declared.Refusal.{Refusal}
@@ -37,6 +37,8 @@ pub record ListingDemand : Type 0 where
   -- 3. The library's listing answers a refused input by its text, one line with the refusal's number, in any buffer that has room for that
   pub refused-text : (s before : List ℕ) (r : Refusal) → listing s ≡ refused r → 8 ≤ length before
       → (put (text s) (length before) ≡ accepted 8) × (putInto (text s) before ≡ refusalLine (reason r .0) ++ drop 8 before)
-  -- 4. No text passes the program's buffer, and no column of a listing cuts a digit off
+  -- 4. A text goes by no more than the first 45,068 bytes of its input, which is all that the program reads
+  pub first-bytes : (s : List ℕ) → text (take 45068 s) ≡ text s
+  -- 5. No text passes the program's buffer, and no column of a listing cuts a digit off
   pub text-fits : (s : List ℕ) → length (text s) ≤ maxTextBytes
   pub nothing-cut : (m : ℕ) (row : List ℕ) (bytes bits : ℕ) → write m row maxBytes ≡ accepted (bytes, bits) → WholeLines m 0 0 row × Whole 11 bytes

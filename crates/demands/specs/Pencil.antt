@@ -7,7 +7,7 @@ use lib.ListN.{length, getD, take, replicate}
 use Rattle.lists.specs.Lists.{valuesFrom}
 use Rattle.bits.specs.Bits.{bitValue}
 use Rattle.fibonacci.specs.Code.{value, first, number, codeword}
-use Rattle.calls.specs.Calls.{Outcome, accepted, answerNumber, answerResults, andThen}
+use Rattle.calls.specs.Calls.{Outcome, accepted, answerNumber, answerPlace, answerResults, andThen}
 use Rattle.reading.specs.Reading.{read, readInto}
 use Rattle.totals.specs.Totals.{total}
 use Rattle.encoder.specs.Writing.{write, writeInto}
@@ -29,12 +29,12 @@ pub data Example : Type 0 where
   Rank : (m N k : ℕ) (s : List ℕ) (n i : ℕ) → Example
   Select : (m N k : ℕ) (s : List ℕ) (n j : ℕ) → Example
 
--- An answer: its number, its results in a list, none after a refusal, and the output afterwards, which held zeros before
+-- An answer: its number and place, its results in a list, none after a refusal, and the output afterwards, where zeros stood before
 abbrev pub Answer : Type 0
-Answer = ℕ × List ℕ × List ℕ
+Answer = ℕ × ℕ × List ℕ × List ℕ
 
 abbrev pub answers : Outcome (List ℕ) → List ℕ → Answer
-answers o output = (answerNumber o, answerResults [] o, output)
+answers o output = (answerNumber o, answerPlace o, answerResults [] o, output)
 
 abbrev pub one : Outcome ℕ → Outcome (List ℕ)
 one o = andThen o (λ x. accepted (x ∷ []))
@@ -57,7 +57,7 @@ answer (Extract m N k s i) = answers (two (extract m N k s i)) []
 answer (Rank m N k s n i) = answers (two (rank m N k s n i)) []
 answer (Select m N k s n j) = answers (two (select m N k s n j)) []
 
--- A line of the table: an example, and what the paper prints of its answer
+-- A line of the table: an example, and what the paper prints of its answer; no line has a place
 pub record Line : Type 0 where
   pub example : Example
   pub number : ℕ
@@ -124,4 +124,4 @@ table = pencil ++ flatten (orders eachOrder)
 
 -- Every line holds
 abbrev pub Pencil : Type 0
-Pencil = map (λ l. answer (l .example)) table ≡ map (λ l. (l .number, l .results, l .output)) table
+Pencil = map (λ l. answer (l .example)) table ≡ map (λ l. (l .number, 0, l .results, l .output)) table

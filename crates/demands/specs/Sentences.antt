@@ -1,4 +1,4 @@
--- Paper 01, the sentences under "Knots to check by pencil", and that on the longest codeword.
+-- Paper 01, the sentences under "Knots to check by pencil", and those on the longest codeword and on totals.
 use mathlib.Core.Path.{_≡_}
 use mathlib.Core.Bool.{true}
 use mathlib.Core.List.{List, [], _∷_, _++_}
@@ -10,6 +10,7 @@ use Rattle.calls.specs.declared.Refusal.the-variants.{TooManyNumbers, TooManyCo
 use Rattle.calls.specs.Calls.{accepted, refused}
 use Rattle.calls.specs.Limits.{Order, isNumber, maxNumber, maxCount}
 use Rattle.reading.specs.Reading.{read}
+use Rattle.totals.specs.Totals.{total, repeatedTotal}
 use Rattle.encoder.specs.Writing.{write}
 use Rattle.appender.specs.Appending.{append}
 use Rattle.demands.specs.Pencil.{answer, Read, orders}
@@ -30,8 +31,12 @@ pub record Ones (m : ℕ) : Type 0 where
 pub record Largest : Type 0 where
   -- its bytes and bits in each order
   pub written : orders (λ m. write m (maxNumber ∷ []) 6) ≡ accepted (6, 47) ∷ accepted (5, 39) ∷ accepted (5, 38) ∷ accepted (5, 38) ∷ accepted (5, 39) ∷ []
-  pub read-back : orders (λ m. answer (Read m (encoding m (maxNumber ∷ [])) 1)) ≡ replicate 5 (0, 1 ∷ [], maxNumber ∷ [])
-  pub next : orders (λ m. answer (Read m (encoding m (suc maxNumber ∷ [])) 1)) ≡ replicate 5 (7, [], 0 ∷ [])
+  pub read-back : orders (λ m. answer (Read m (encoding m (maxNumber ∷ [])) 1)) ≡ replicate 5 (0, 0, 1 ∷ [], maxNumber ∷ [])
+  pub next : orders (λ m. answer (Read m (encoding m (suc maxNumber ∷ [])) 1)) ≡ replicate 5 (7, 0, [], 0 ∷ [])
+
+-- As many of the largest number as a row can have
+unfoldable pub largestRow : List ℕ
+largestRow = replicate maxCount maxNumber
 
 -- For every order
 pub record Sentences : Type 0 where
@@ -39,3 +44,6 @@ pub record Sentences : Type 0 where
   pub longest : (m : ℕ) → Order m → (n : ℕ) → isNumber maxNumber n ≡ true → length (codeword m n) ≤ 47
   pub ones : (m : ℕ) → Order m → Ones m
   pub largest-number : Largest
+  -- "Totals are 64-bit": the largest there are, reached and exact
+  pub largest-total : (m : ℕ) → Order m → total m (encoding m largestRow) 0 maxCount ≡ accepted 17592186040320
+  pub largest-repeated : (m : ℕ) → Order m → repeatedTotal m (encoding m largestRow) 10000 ≡ accepted 175921860403200000

@@ -1,1 +1,1 @@
-// Paper 01's examples, shown from the definitions: specs/ has the table and its sentences, proofs/ the proof. There is no code here.
+// What the definitions promise together: demands 2 and 3, the index, the listing, and paper 01's examples. There is no code here.

@@ -11,6 +11,7 @@ use Rattle.bits.specs.Bits.{Bytes, byteCount, unpack}
 use Rattle.bits.specs.Leaves.{putAt}
 use Rattle.bits.proofs.Packing.{pack-length}
 use Rattle.bits.proofs.Put.{put-packed}
+use Rattle.fibonacci.proofs.Rows.{bits-few}
 use Rattle.fibonacci.specs.Encoding.{rowBits, encoding}
 use Rattle.calls.specs.declared.Refusal.{Refusal}
 use Rattle.calls.specs.declared.Refusal.the-variants.{BadOrder, BadNumber, TooManyNumbers, NoRoom}
@@ -18,7 +19,6 @@ use Rattle.calls.specs.Calls.{Outcome, accepted, refused, buffer}
 use Rattle.calls.specs.Limits.{isOrder, Order, Legal, maxNumber, maxCount, checkEach}
 use Rattle.calls.proofs.Checks.{order-is, is-order, check-passed, accepted-one, each-passed, each-accepted, each-refused}
 use Rattle.codeword_writer.specs.Leaves.{Fits}
-use Rattle.codeword_writer.proofs.Rows.{bits-few}
 use Rattle.encoder.specs.Writing.{write, writeInto}
 
 bytes-are : (m : ℕ) (row : List ℕ) → length (encoding m row) ≡ byteCount (length (rowBits m row))

@@ -16,8 +16,8 @@ pub enum WriteAnswer {
     Refused(Refusal),
 }
 
-// How many bits the codewords of a row have, if no number is 0 or above the limit. Requires: a row that is not too long, which `plan` checks, and a limit
-// that a number can have.
+// How many bits the codewords of a row have, if no number is 0 or above the limit. Requires: the order's first numbers, a row that is not too long, which
+// `plan` checks, and a limit that a number can have.
 fn measure(firsts: &[u32; 47], order: usize, row: &[u32], limit: u64) -> CountAnswer
     requires { ⌜ Firsts order (now firsts) × (length (now row) ≤ maxCount) × (limit ≤ maxNumber) ⌝ }
     ensures { λ r. ⌜ countOutcome r ≡ checkEach BadNumber limit 0 (now (row .entry)) (accepted (length (rowBits order (now (row .entry))))) ⌝ }

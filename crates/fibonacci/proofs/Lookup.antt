@@ -15,11 +15,16 @@ use Rattle.lists.proofs.Sums.{sum-none}
 use Rattle.fibonacci.specs.Code.{past, F, ones, first, size, codeword}
 use Rattle.calls.specs.Limits.{maxNumber, Order}
 use Rattle.calls.proofs.Checks.{both}
-use Rattle.fibonacci.specs.Leaves.{recursAfter, recurs, numberOrZero, tableRow, tableOf}
+use Rattle.fibonacci.specs.Leaves.{recursAfter, recurs, numberOrZero, tableRow}
 use Rattle.fibonacci.proofs.Numeration.{F-rises, digits-length}
 use Rattle.fibonacci.proofs.Numbers.{first-rises, codeword-size}
 
--- the row of an order in a table of tables
+-- a table of tables: a row for each order from 2 to 6
+unfoldable pub tableOf : (ℕ → ℕ → ℕ) → List (List ℕ)
+unfolding tableRow
+tableOf f = valuesFrom (λ m. tableRow (f m)) 2 5
+
+-- the row of an order in it
 pub row-at : (f : ℕ → ℕ → ℕ) (m : ℕ) (z : List ℕ) → Order m → getD (tableOf f) (m - 2) z ≡ tableRow (f m)
 unfolding tableOf
 row-at f m z h =

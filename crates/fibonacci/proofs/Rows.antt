@@ -3,16 +3,20 @@ use mathlib.Core.Path.{_≡_, refl, sym, ap, ap₂, _∙_}
 use mathlib.Core.Bool.{Bool, false}
 use mathlib.Core.List.{List, [], _∷_, _++_, append-nil, map, map-append, flatten, IsPrefix}
 use mathlib.Core.Logic.{_↔_}
-use Prim.Native.Nat.{ℕ, zero, suc, _≤_}
-use lib.ListN.{length, replicate}
+use Prim.Native.Nat.{ℕ, zero, suc, _*_, _≤_}
+use native.Mathlib.Omega.{arith}
+use lib.ListN.{length, replicate, length-append}
 use Rattle.lists.proofs.Lists.{flatten-map-append}
 use Rattle.lists.specs.Lists.{All}
 use Rattle.bits.specs.Bits.{unpack, padding}
 use Rattle.bits.proofs.Packing.{unpack-pack}
+use Rattle.calls.specs.Limits.{Order, Legal, maxNumber}
+use Rattle.calls.proofs.Checks.{number-is}
 use Rattle.fibonacci.specs.Code.{runs, Codeword, number, codeword}
 use Rattle.fibonacci.specs.Encoding.{Positive, rowBits, encoding, Parse, parsed, codewords, rest, parse, numbers}
 use Rattle.fibonacci.proofs.Runs.{runs-false}
 use Rattle.fibonacci.proofs.Numbers.{codeword-good, codeword-number}
+use Rattle.fibonacci.proofs.Lookup.{codeword-short}
 use Rattle.fibonacci.proofs.Parse.{parse-is, onto, onto-codewords, onto-parsed, parse-flatten, parse-rest}
 
 -- ## The parse of a row's bits
@@ -93,3 +97,18 @@ encoding-read m row p h = ap (λ (s : Parse). map (number m) (codewords s)) (enc
 pub encoding-apart : (m : ℕ) (a b : List ℕ) → 1 ≤ m → Positive a → Positive b → encoding m a ≡ encoding m b → a ≡ b
 encoding-apart m a b p ha hb e =
     sym (encoding-read m a p ha) ∙ ap (λ (x : List ℕ). numbers m (unpack x)) e ∙ encoding-read m b p hb
+
+-- ## How long a row's bits are
+
+-- a number more
+pub bits-snoc : (m : ℕ) (row : List ℕ) (n : ℕ) → rowBits m (row ++ (n ∷ [])) ≡ rowBits m row ++ codeword m n
+unfolding rowBits flatten
+bits-snoc m row n = bits-append m row (n ∷ []) ∙ ap (λ (b : List Bool). rowBits m row ++ b) (append-nil (codeword m n))
+
+-- a codeword of a legal number has at most 47
+pub bits-few : (m : ℕ) (row : List ℕ) → Order m → Legal maxNumber row → length (rowBits m row) ≤ 47 * length row
+unfolding rowBits flatten
+bits-few m [] o a = omega arith
+bits-few m (n ∷ row) o a =
+    let p = number-is maxNumber n (a .0) in
+    omega (arith, length-append (codeword m n) (rowBits m row), codeword-short m n o (p .0) (p .1), bits-few m row o (a .1))

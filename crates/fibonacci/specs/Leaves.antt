@@ -37,11 +37,6 @@ numberOrZero x = elim (leb x maxNumber) [ true ↦ x | false ↦ 0 ]
 unfoldable pub tableRow : (ℕ → ℕ) → List ℕ
 tableRow f = valuesFrom (λ j. numberOrZero (f j)) 0 47
 
--- The table of tables: a row for each order from 2 to 6
-unfoldable pub tableOf : (ℕ → ℕ → ℕ) → List (List ℕ)
-unfolding tableRow
-tableOf f = valuesFrom (λ m. tableRow (f m)) 2 5
-
 -- The order is in use, and these are its first numbers
 abbrev pub Firsts : ℕ → List ℕ → Type 0
 Firsts m row = Order m × (row ≡ tableRow (first m))

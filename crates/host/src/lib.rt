@@ -9,7 +9,7 @@ ghost use Rattle.totals.specs.Totals.{total};
 ghost use Rattle.table_decoder.specs.Reading.{readBytes, readBytesInto};
 ghost use Rattle.host.specs.Host.{hostNumber};
 
-// The host's number for a refusal. Requires: no place above 4,096, as both functions refuse none.
+// The host's number for a refusal. Requires: a place of at most 4,096; no refusal of the two functions has a larger one.
 fn number_of(r: calls::Refusal) -> u64
     requires { ⌜ reason r .1 ≤ maxCount ⌝ }
     ensures { λ n. ⌜ n ≡ hostNumber (refused r) ⌝ }

@@ -19,7 +19,8 @@ enum Input {
     Unreadable,
 }
 
-// Reads until the input ends or the buffer is full, whatever the sizes of the reads.
+// Reads until the input ends or the buffer is full, whatever the sizes of the reads. Which bytes an input has no contract can say; so that none is missed is
+// tested.
 fn read(buf: &mut [u8]) -> Input
     ensures { λ r. ⌜ bytesRead r ≤ length (now (buf .exit)) ⌝ }
 {

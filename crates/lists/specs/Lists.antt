@@ -1,4 +1,5 @@
--- Lists of any elements: what definitions say of them and the library does not have. (Its `filter` goes by decisions; here a test is a Bool, which computes.)
+-- Lists of any elements: what definitions say of them and the library has not, or not in a form that computes. (Its `filter` goes by decisions, where a test here
+-- is a Bool; its `sum` takes any addition and zero, where these are those of numbers.)
 use mathlib.Core.Bool.{Bool, true, false}
 use mathlib.Core.List.{List, [], _∷_, foldr}
 use Prim.Native.Nat.{ℕ, zero, suc, _+_}

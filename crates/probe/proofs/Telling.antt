@@ -5,8 +5,8 @@ use Prim.Native.Nat.{ℕ}
 use lib.Seq.{sets}
 use Rattle.calls.specs.Calls.{Outcome}
 use Rattle.answers.specs.declared.Answer.{Answer}
-use Rattle.answers.specs.Answers.{five, single, pair, values}
-use Rattle.probe.specs.Probe.{told}
+use Rattle.answers.specs.Leaves.{five, single, pair, values}
+use Rattle.probe.specs.Leaves.{told}
 
 module _ (before after : List ℕ) (r : Answer) (t : after ≡ sets before 0 (values r)) where
   -- the answer's outcome is that of the call

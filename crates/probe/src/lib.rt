@@ -10,8 +10,8 @@ ghost use Rattle.appender.specs.Appending.{append, appendInto};
 ghost use Rattle.table_decoder.specs.Reading.{readTable, readTableInto, readBytes, readBytesInto};
 ghost use Rattle.wavelet.specs.Questions.{build, buildInto, extract, rank, select};
 ghost use Rattle.listing_text.specs.Listing.{text, put, putInto};
-ghost use Rattle.answers.specs.Answers.{single, pair, values};
-ghost use Rattle.probe.specs.Probe.{told};
+ghost use Rattle.answers.specs.Leaves.{single, pair, values};
+ghost use Rattle.probe.specs.Leaves.{told};
 
 // Element i becomes x; where i is past the end, nothing changes.
 fn store(list: &mut [u64], i: usize, x: u64)

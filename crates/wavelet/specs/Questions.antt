@@ -7,7 +7,8 @@ use lib.Dec.{leb, ltb, eqb}
 use lib.ListN.{length, getD, take}
 use Rattle.bits.specs.Bits.{count, selectBit}
 use Rattle.calls.specs.declared.Refusal.the-variants.{BadOrder, TooManyNumbers, NoRoom, BadPlace, BadUse, BadAlphabet, OutsideAlphabet, NotAnIndex, TooFewUses}
-use Rattle.calls.specs.Calls.{Outcome, accepted, check, buffer}
+use Rattle.calls.specs.declared.CountAnswer.{CountAnswer}
+use Rattle.calls.specs.Calls.{Outcome, accepted, check, buffer, countOutcome}
 use Rattle.calls.specs.Limits.{isOrder, isNumber, isOutside, maxCount, checkEach}
 use Rattle.wavelet.specs.Nodes.{visits}
 use Rattle.wavelet.specs.Bitmaps.{bitmaps, index, isIndex, rowOfIndex}
@@ -35,9 +36,9 @@ build m N row room =
 unfoldable pub buildInto : ℕ → ℕ → List ℕ → List ℕ → List ℕ
 buildInto m N row before = buffer (build m N row (length before)) (index m N row) before
 
--- What building promises: its answer, and the output afterwards
-abbrev pub BuildPromise : ℕ → ℕ → List ℕ → List ℕ → List ℕ → Outcome ℕ → Type 0
-BuildPromise m N row before after outcome = (outcome ≡ build m N row (length before)) × (after ≡ buildInto m N row before)
+-- What is promised of the answer, and of the output before and after
+abbrev pub BuildPromise : ℕ → ℕ → List ℕ → List ℕ → CountAnswer → List ℕ → Type 0
+BuildPromise m N row before a after = (countOutcome a ≡ build m N row (length before)) × (after ≡ buildInto m N row before)
 
 -- ## What a row itself answers
 

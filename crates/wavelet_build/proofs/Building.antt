@@ -19,7 +19,7 @@ use Rattle.calls.specs.declared.Refusal.the-variants.{NoRoom, OutsideAlphabet}
 use Rattle.calls.specs.Calls.{Outcome, accepted, refused, check, buffer}
 use Rattle.calls.specs.Limits.{Legal, checkEach}
 use Rattle.wavelet.specs.Bitmaps.{bitmaps, index}
-use Rattle.wavelet.specs.Questions.{checkTree, build, buildInto, BuildPromise}
+use Rattle.wavelet.specs.Questions.{checkTree, build, buildInto}
 use Rattle.wavelet.specs.Leaves.{Passed}
 use Rattle.wavelet.proofs.Answering.{tree-legal, tree-refused}
 
@@ -75,19 +75,23 @@ bytes-front (x ∷ s) t h (suc i) = bytes-front s t (λ j. h (suc j)) i
 
 -- ## The answers, check by check
 
+-- the answer, as an outcome, and the output afterwards
+abbrev Built : ℕ → ℕ → List ℕ → List ℕ → List ℕ → Outcome ℕ → Type 0
+Built m N row before after outcome = (outcome ≡ build m N row (length before)) × (after ≡ buildInto m N row before)
+
 module _ (m N : ℕ) (row before : List ℕ) where
-  answer : (outcome : Outcome ℕ) → build m N row (length before) ≡ outcome → BuildPromise m N row before (buffer outcome (index m N row) before) outcome
+  answer : (outcome : Outcome ℕ) → build m N row (length before) ≡ outcome → Built m N row before (buffer outcome (index m N row) before) outcome
   unfolding buildInto
   answer outcome e = (sym e, ap (λ (o : Outcome ℕ). buffer o (index m N row) before) (sym e))
 
   -- the order, the alphabet or the length
-  pub build-refused : (r : Refusal) → refused r ≡ checkTree m N (length row) (accepted N) → BuildPromise m N row before before (refused r)
+  pub build-refused : (r : Refusal) → refused r ≡ checkTree m N (length row) (accepted N) → Built m N row before before (refused r)
   unfolding build
   build-refused r e = answer (refused r) (sym (tree-refused m N (length row) e _))
 
   module _ (p : Passed m N (length row)) where
     -- a number
-    pub build-number : (r : Refusal) → refused r ≡ checkEach OutsideAlphabet N 0 row (accepted (length row)) → BuildPromise m N row before before (refused r)
+    pub build-number : (r : Refusal) → refused r ≡ checkEach OutsideAlphabet N 0 row (accepted (length row)) → Built m N row before before (refused r)
     unfolding build
     build-number r e = answer (refused r) (tree-legal m N (length row) p _ ∙ each-refused OutsideAlphabet N 0 row (length row) r _ (sym e))
 
@@ -102,13 +106,13 @@ module _ (m N : ℕ) (row before : List ℕ) where
       decided = tree-legal m N (length row) p _ ∙ each-passed OutsideAlphabet N 0 row _ numbers ∙ rw (bytes, long)
 
       -- the output is too short
-      pub build-room : length before < byteCount bits → BuildPromise m N row before before (refused NoRoom)
+      pub build-room : length before < byteCount bits → Built m N row before before (refused NoRoom)
       build-room h = answer (refused NoRoom) (decided ∙ rw (lt-ltb (length before) (byteCount bits) h))
 
       -- the first bytes of b, which were 0 before the bitmaps were set in them, are copied
       pub build-done : (k : ℕ) (b after : List ℕ) → bits ≤ 8 * k → unpack b ≡ sets (unpack (replicate k 0)) 0 (bitmaps m N row)
           → byteCount bits ≤ length before → after ≡ take (byteCount bits) b ++ drop (byteCount bits) before → Bytes after
-          → BuildPromise m N row before after (accepted bits)
+          → Built m N row before after (accepted bits)
       unfolding index
       build-done k b after few e h copied small =
           let x = answer (accepted bits) (decided ∙ rw (le-ltb (length before) (byteCount bits) h)) in

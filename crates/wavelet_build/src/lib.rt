@@ -36,7 +36,7 @@ fn fill(
 
 // Builds the index of a row of numbers up to `alphabet`; the result is how many bits the bitmaps have. It is built apart, as a refusal must leave the output as it was.
 pub fn build(order: usize, alphabet: u32, row: &[u32], out: &mut [u8]) -> CountAnswer
-    ensures { λ r. ⌜ BuildPromise order alphabet (now (row .entry)) (now (out .entry)) (now (out .exit)) (countOutcome r) ⌝ }
+    ensures { λ r. ⌜ BuildPromise order alphabet (now (row .entry)) (now (out .entry)) r (now (out .exit)) ⌝ }
 {
     let checked = wavelet::check(order, alphabet, row.len());
     if let CountAnswer::Refused(r) = checked {

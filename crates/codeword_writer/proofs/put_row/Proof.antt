@@ -11,7 +11,8 @@ use Rattle.bits.proofs.Words.{words-length}
 use Rattle.bits.proofs.Put.{put-within, put-part}
 use Rattle.calls.proofs.Checks.{number-is, legal-at}
 use Rattle.calls.specs.Limits.{maxNumber, maxCount}
-use Rattle.codeword_writer.proofs.Rows.{bits-few, Put, put-none, put-room, put-next, put-end}
+use Rattle.fibonacci.proofs.Rows.{bits-few}
+use Rattle.codeword_writer.proofs.Rows.{Put, put-none, put-room, put-next, put-end}
 use Rattle.codeword_writer.proofs.put_row.Statement.{statement}
 use Rattle.codeword_writer.proofs.put_row.Tie as tie
 

@@ -1,8 +1,8 @@
 -- The row of the order in the table. That the table is the one of the definition is computed here, over the whole of it.
 use borrow.Author.Needs.{needs}
 use Rattle.fibonacci.specs.Code.{past, F, first}
-use Rattle.fibonacci.specs.Leaves.{numberOrZero, tableRow, tableOf}
-use Rattle.fibonacci.proofs.Lookup.{row-at}
+use Rattle.fibonacci.specs.Leaves.{numberOrZero, tableRow}
+use Rattle.fibonacci.proofs.Lookup.{tableOf, row-at}
 use Rattle.fibonacci.proofs.first_numbers.Statement.{statement}
 use Rattle.fibonacci.proofs.first_numbers.Tie as tie
 

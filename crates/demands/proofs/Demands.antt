@@ -1,0 +1,22 @@
+-- All that is promised of the definitions together.
+use Rattle.demands.specs.Demands.{Demands}
+use Rattle.demands.proofs.Codes.{demand-3}
+use Rattle.demands.proofs.RoundTrip.{round-trip}
+use Rattle.demands.proofs.Readers.{two-readers}
+use Rattle.demands.proofs.Index.{index-demand, built-answers}
+use Rattle.demands.proofs.Listing.{listing-demand}
+use Rattle.demands.proofs.Pencil.{pencil-holds}
+use Rattle.demands.proofs.Sentences.{sentences-hold}
+
+pub demands-hold : Demands
+demands-hold =
+    record {
+      codes = demand-3;
+      readers = two-readers;
+      round-trip = round-trip;
+      index = index-demand;
+      built = built-answers;
+      listing = listing-demand;
+      pencil = pencil-holds;
+      sentences = sentences-hold;
+    }
