@@ -78,7 +78,7 @@ module _ (s : List ℕ) {m limit bit count : ℕ} {row : List ℕ} {r : Next} (o
     -- n was found for its number
     module _ (n : ℕ) (is : Numbered m (r .len) (r .val) n) (top : limit ≤ maxNumber) (less : count ≡ maxCount → ⊥) where
       near : first m (r .len) ≤ maxNumber → x ≡ first m (r .len) + r .val
-      near h = omega (arith, x-is, t .worth h)
+      near h = omega (arith, x-is, t .value-is h)
 
       far : maxNumber < first m (r .len) → maxNumber < x
       far h = omega (arith, x-is)
@@ -121,7 +121,7 @@ module _ (s : List ℕ) {m limit bit count : ℕ} {row : List ℕ} {r : Next} (o
         ∙ onto-parsed words rest
 
     short : r .len < 8 → (length (t .body) ≡ r .len) × (r .val ≡ value m 1 (t .body))
-    short l = (t .long, t .worth (first-few m (r .len) o (omega arith)))
+    short l = (t .long, t .value-is (first-few m (r .len) o (omega arith)))
 
     far-off : 8 ≤ r .len → 8 ≤ length (t .body)
     far-off l = omega (arith, t .long)
