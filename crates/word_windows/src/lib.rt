@@ -15,8 +15,8 @@ pub struct Window {
     pub starts: u64,
 }
 
-// Where `order` ones in a row begin in a word: a one at each such place. Ones that begin here and again no further on than they reach are one longer run.
-// Requires: an order in use, which `window_at` requires.
+// Where `order` ones in a row begin in a word: a one at each such place. j ones that begin here and again k ≤ j places on are j + k ones. Requires: an order in
+// use, which `window_at` requires.
 fn run_starts(w: u64, order: usize) -> u64
     requires { ⌜ Order order ⌝ }
     ensures { λ r. ⌜ RunStarts order w r ⌝ }
