@@ -5,12 +5,12 @@
 
 /* What a walk down the tree knows of a string of bits: how many it has, how many ones it ends with, the number of the codeword that goes on with a 0 and the
    last ones, and of the one that goes on with ones only. */
-struct spot {
+struct cursor {
     size_t depth, ones;
     uint64_t next, number;
 };
 
-static const struct spot root = {0, 0, 2, 1};
+static const struct cursor root = {0, 0, 2, 1};
 
 struct tree {
     size_t order;
@@ -18,22 +18,22 @@ struct tree {
     const uint8_t *index;
 };
 
-static struct spot side(size_t order, struct spot v, int one)
+static struct cursor side(size_t order, struct cursor v, int one)
 {
     uint64_t step = plain_F[order][v.depth + 1];
 
     if (one)
-        return (struct spot){v.depth + 1, v.ones + 1, v.next + 2 * step, v.number};
-    return (struct spot){v.depth + 1, 0, v.next + step, v.next};
+        return (struct cursor){v.depth + 1, v.ones + 1, v.next + 2 * step, v.number};
+    return (struct cursor){v.depth + 1, 0, v.next + step, v.next};
 }
 
-static int is_node(const struct tree *t, struct spot v)
+static int is_node(const struct tree *t, struct cursor v)
 {
     return v.ones < t->order && v.next <= t->alphabet;
 }
 
 /* The codeword of a number from the top of a word. */
-static uint32_t path(size_t order, uint32_t n)
+static uint32_t aligned_codeword(size_t order, uint32_t n)
 {
     size_t d = 0;
     uint32_t w = 0;
@@ -61,7 +61,7 @@ static void set_bit(uint8_t *out, size_t at, int bit)
         out[at / 8] &= ~(128 >> at % 8);
 }
 
-static size_t spread(const struct tree *t, struct spot v, uint32_t *words, size_t n, uint32_t *spare, uint8_t *out, size_t at)
+static size_t write_subtree(const struct tree *t, struct cursor v, uint32_t *words, size_t n, uint32_t *spare, uint8_t *out, size_t at)
 {
     size_t zeros = 0, ones = 0;
 
@@ -76,8 +76,8 @@ static size_t spread(const struct tree *t, struct spot v, uint32_t *words, size_
             words[zeros++] = words[i];
     }
     memcpy(words + zeros, spare, ones * sizeof *words);
-    at = spread(t, side(t->order, v, 0), words, zeros, spare, out, at);
-    return spread(t, side(t->order, v, 1), words + zeros, ones, spare, out, at);
+    at = write_subtree(t, side(t->order, v, 0), words, zeros, spare, out, at);
+    return write_subtree(t, side(t->order, v, 1), words + zeros, ones, spare, out, at);
 }
 
 size_t plain_build(size_t order, uint32_t alphabet, const uint32_t *row, size_t count, uint8_t *out)
@@ -86,8 +86,8 @@ size_t plain_build(size_t order, uint32_t alphabet, const uint32_t *row, size_t 
     uint32_t words[4096], spare[4096];
 
     for (size_t i = 0; i < count; i++)
-        words[i] = path(order, row[i]);
-    size_t bits = spread(&t, root, words, count, spare, out, 0);
+        words[i] = aligned_codeword(order, row[i]);
+    size_t bits = write_subtree(&t, root, words, count, spare, out, 0);
     for (size_t k = bits; k % 8 != 0; k++)
         set_bit(out, k, 0);
     return bits;
@@ -134,7 +134,7 @@ static int bit_at(const uint8_t *s, size_t k)
 }
 
 /* The place of the bit with j others of its kind before it, among the k bits from bit `at` on; k where there is none. */
-static size_t place_in(const uint8_t *s, size_t at, size_t k, int bit, size_t j)
+static size_t select_in(const uint8_t *s, size_t at, size_t k, int bit, size_t j)
 {
     size_t p = 0;
 
@@ -151,7 +151,7 @@ static size_t place_in(const uint8_t *s, size_t at, size_t k, int bit, size_t j)
 }
 
 /* Where the bitmaps of k numbers below a string end. */
-static size_t end_of(const struct tree *t, struct spot v, size_t k, size_t at)
+static size_t end_of(const struct tree *t, struct cursor v, size_t k, size_t at)
 {
     if (k == 0 || !is_node(t, v))
         return at;
@@ -161,17 +161,17 @@ static size_t end_of(const struct tree *t, struct spot v, size_t k, size_t at)
 }
 
 /* What a walk finds: where the bitmaps end, the number at its end, and how many places of that number are before the place in view. */
-struct found {
+struct walked {
     size_t end;
     uint64_t number;
     size_t rank;
 };
 
 /* Walks the bitmaps of k numbers below a string with place i in view: the way of the place, or of a codeword. */
-static struct found descend(const struct tree *t, struct spot v, size_t k, size_t at, int by_place, uint32_t x, size_t i)
+static struct walked descend(const struct tree *t, struct cursor v, size_t k, size_t at, int by_place, uint32_t x, size_t i)
 {
     if (!is_node(t, v))
-        return (struct found){at, v.number, i};
+        return (struct walked){at, v.number, i};
     size_t ones = ones_in(t->index, at, k);
     size_t before = ones_in(t->index, at, i);
     int one = by_place ? bit_at(t->index, at + i) : (int)(x >> (31 - v.depth) & 1);
@@ -179,7 +179,7 @@ static struct found descend(const struct tree *t, struct spot v, size_t k, size_
         at = end_of(t, side(t->order, v, 0), k - ones, at + k);
         return descend(t, side(t->order, v, 1), ones, at, by_place, x, before);
     }
-    struct found f = descend(t, side(t->order, v, 0), k - ones, at + k, by_place, x, i - before);
+    struct walked f = descend(t, side(t->order, v, 0), k - ones, at + k, by_place, x, i - before);
     f.end = end_of(t, side(t->order, v, 1), ones, f.end);
     return f;
 }
@@ -187,7 +187,7 @@ static struct found descend(const struct tree *t, struct spot v, size_t k, size_
 uint32_t plain_extract(size_t order, uint32_t alphabet, size_t count, const uint8_t *index, size_t i, size_t *end)
 {
     struct tree t = {order, alphabet, index};
-    struct found f = descend(&t, root, count, 0, 1, 0, i);
+    struct walked f = descend(&t, root, count, 0, 1, 0, i);
 
     *end = f.end;
     return (uint32_t)f.number;
@@ -196,14 +196,14 @@ uint32_t plain_extract(size_t order, uint32_t alphabet, size_t count, const uint
 size_t plain_rank(size_t order, uint32_t alphabet, size_t count, const uint8_t *index, uint32_t n, size_t i, size_t *end)
 {
     struct tree t = {order, alphabet, index};
-    struct found f = descend(&t, root, count, 0, 0, path(order, n), i);
+    struct walked f = descend(&t, root, count, 0, 0, aligned_codeword(order, n), i);
 
     *end = f.end;
     return f.rank;
 }
 
 /* Walks down the codeword x and back, for the use that has j others before it; gives its place, or k. */
-static size_t climb(const struct tree *t, struct spot v, size_t k, size_t *at, uint32_t x, size_t j)
+static size_t select_below(const struct tree *t, struct cursor v, size_t k, size_t *at, uint32_t x, size_t j)
 {
     size_t start = *at;
 
@@ -212,13 +212,13 @@ static size_t climb(const struct tree *t, struct spot v, size_t k, size_t *at, u
     size_t ones = ones_in(t->index, start, k);
     if (x >> (31 - v.depth) & 1) {
         *at = end_of(t, side(t->order, v, 0), k - ones, start + k);
-        j = climb(t, side(t->order, v, 1), ones, at, x, j);
-        return place_in(t->index, start, k, 1, j);
+        j = select_below(t, side(t->order, v, 1), ones, at, x, j);
+        return select_in(t->index, start, k, 1, j);
     }
     *at = start + k;
-    j = climb(t, side(t->order, v, 0), k - ones, at, x, j);
+    j = select_below(t, side(t->order, v, 0), k - ones, at, x, j);
     *at = end_of(t, side(t->order, v, 1), ones, *at);
-    return place_in(t->index, start, k, 0, j);
+    return select_in(t->index, start, k, 0, j);
 }
 
 size_t plain_select(size_t order, uint32_t alphabet, size_t count, const uint8_t *index, uint32_t n, size_t j, size_t *end)
@@ -226,5 +226,5 @@ size_t plain_select(size_t order, uint32_t alphabet, size_t count, const uint8_t
     struct tree t = {order, alphabet, index};
 
     *end = 0;
-    return climb(&t, root, count, end, path(order, n), j - 1);
+    return select_below(&t, root, count, end, aligned_codeword(order, n), j - 1);
 }

@@ -18,8 +18,8 @@
 
 #define AREA 73728u /* bytes of the longest input, and of the longest output: enough to show a length that is cut to 16 bits */
 #define GUARD 64u   /* bytes that are watched at the open end of the output */
-#define LARGEST 4294967295u
-#define FULL 4096u
+#define MAX_NUMBER 4294967295u
+#define MAX_COUNT 4096u
 
 /* ---- the groups and their counts ---- */
 
@@ -266,7 +266,7 @@ static void worked_examples(void)
     worked_total(2, "E0", 9, 0, 6); /* the encoding is judged before the span, and the order before the encoding */
     worked_total(7, "E0", 9, 0, 1);
     for (m = 2; m <= 6; m++) {
-        worked_total(m, largest[m], 0, 1, 32 * (uint64_t)LARGEST);
+        worked_total(m, largest[m], 0, 1, 32 * (uint64_t)MAX_NUMBER);
         worked_total(m, one_more[m], 0, 1, 7);
     }
     worked_read("D0 59 60 A4 6E", 4, 32, "FF FF FF FF");
@@ -278,22 +278,22 @@ static void worked_examples(void)
 
 static void counts(void)
 {
-    static uint8_t row[4 * FULL];
+    static uint8_t row[4 * MAX_COUNT];
     size_t count;
 
     begin("every count");
-    for (count = 0; count < FULL; count++)
+    for (count = 0; count < MAX_COUNT; count++)
         row[4 * count] = 1;
-    for (count = 0; count <= FULL + 2; count++) {
-        uint64_t expected = count <= FULL ? 32 * count : 4;
+    for (count = 0; count <= MAX_COUNT + 2; count++) {
+        uint64_t expected = count <= MAX_COUNT ? 32 * count : 4;
 
         clear();
         put_ones(3 * count);
         reads(made, made_length(), 4 * count, expected, row);
-        if (count > 0 && count <= FULL)
+        if (count > 0 && count <= MAX_COUNT)
             reads(made, made_length(), 4 * count - 1, 5, row);
         totals(3, made, made_length(), 0, count, expected);
-        totals(3, made, made_length(), 0, count + 1, count <= FULL ? 8 : 4);
+        totals(3, made, made_length(), 0, count + 1, count <= MAX_COUNT ? 8 : 4);
     }
     end();
 }
@@ -303,9 +303,9 @@ static void places(void)
     size_t m, place;
 
     begin("every place of a number too large");
-    for (place = 0; place <= FULL + 1; place++)
+    for (place = 0; place <= MAX_COUNT + 1; place++)
         for (m = 2; m <= 6; m++) {
-            uint64_t expected = place < FULL ? 7 + 32 * place : 4;
+            uint64_t expected = place < MAX_COUNT ? 7 + 32 * place : 4;
 
             clear();
             put_ones(m * place);
@@ -321,21 +321,21 @@ static void places(void)
 static void largest_totals(void)
 {
     static const size_t edges[] = {0, 1, 2048, 4095, 4096, 4097, SIZE_MAX};
-    static uint8_t row[4 * FULL];
+    static uint8_t row[4 * MAX_COUNT];
     size_t m, i, a, b;
 
     begin("the largest totals");
     memset(row, 0xFF, sizeof row);
     for (m = 2; m <= 6; m++) {
         clear();
-        for (i = 0; i < FULL; i++)
+        for (i = 0; i < MAX_COUNT; i++)
             put(largest[m], bits_of_either[m]);
         for (a = 0; a < sizeof edges / sizeof edges[0]; a++)
             for (b = 0; b < sizeof edges / sizeof edges[0]; b++)
                 totals(m, made, made_length(), edges[a], edges[b],
-                       edges[a] <= edges[b] && edges[b] <= FULL ? 32 * (uint64_t)(edges[b] - edges[a]) * LARGEST : 8);
+                       edges[a] <= edges[b] && edges[b] <= MAX_COUNT ? 32 * (uint64_t)(edges[b] - edges[a]) * MAX_NUMBER : 8);
         if (m == 3)
-            reads(made, made_length(), 4 * FULL, 32 * FULL, row);
+            reads(made, made_length(), 4 * MAX_COUNT, 32 * MAX_COUNT, row);
     }
     end();
 }
@@ -434,7 +434,7 @@ static void words(void)
                 fail("leadginger_words", "two answers with the same words", (uint64_t)answers[i], (uint64_t)answers[j]);
     }
     cases += 3;
-    if (LEADGINGER_NUMBER_MAX != LARGEST || LEADGINGER_COUNT_MAX != FULL || LEADGINGER_BYTES_MAX != 24064)
+    if (LEADGINGER_NUMBER_MAX != MAX_NUMBER || LEADGINGER_COUNT_MAX != MAX_COUNT || LEADGINGER_BYTES_MAX != 24064)
         fail("the limits", "(expected 0 for as in paper 01)", 0, 1);
     end();
 }

@@ -9,8 +9,8 @@ use std::collections::{HashMap, HashSet};
 use std::rc::Rc;
 
 /// The paper's limits.
-pub const LARGEST: u128 = 4_294_967_295;
-pub const LONGEST: usize = 4_096;
+pub const MAX_NUMBER: u128 = 4_294_967_295;
+pub const MAX_COUNT: usize = 4_096;
 pub const MOST_BYTES: u64 = 24_064;
 pub const LARGEST_ALPHABET: u64 = 4_096;
 
@@ -224,11 +224,11 @@ pub fn row_of(order: u64, bytes: &[u8]) -> Result<Vec<u32>, Refusal> {
     let (codewords, rest) = parse(m, &unpack(bytes));
     let mut row = Vec::new();
     for (place, codeword) in codewords.iter().enumerate() {
-        if place == LONGEST {
+        if place == MAX_COUNT {
             return Err(refusal(4));
         }
         let n = number(m, codeword);
-        if n > LARGEST {
+        if n > MAX_NUMBER {
             return Err(refusal_at(7, place));
         }
         row.push(n as u32);
@@ -246,7 +246,7 @@ pub fn write(order: u64, row: &[u32], output: &mut [u8]) -> Answer<(u64, u64)> {
     if !(2..=6).contains(&order) {
         return Answer::no(refusal(1));
     }
-    if row.len() > LONGEST {
+    if row.len() > MAX_COUNT {
         return Answer::no(refusal(4));
     }
     if let Some(place) = row.iter().position(|n| *n == 0) {
@@ -314,7 +314,7 @@ pub fn append(order: u64, buffer: &mut [u8], used: u64, n: u32) -> Answer<(u64, 
     if n == 0 {
         return Answer::no(refusal(3));
     }
-    if row.len() == LONGEST {
+    if row.len() == MAX_COUNT {
         return Answer::no(refusal(4));
     }
     row.push(n);
@@ -480,7 +480,7 @@ fn tree_of(order: u64, alphabet: u64, length: u64) -> Result<Rc<Tree>, Refusal> 
     if alphabet < 1 || alphabet > LARGEST_ALPHABET {
         return Err(refusal(9));
     }
-    if length > LONGEST as u64 {
+    if length > MAX_COUNT as u64 {
         return Err(refusal(4));
     }
     Ok(Tree::of(order as usize, alphabet as usize))
@@ -609,10 +609,10 @@ fn listed(input: &[u8]) -> Result<String, u64> {
     if !(2..=6).contains(&order) {
         return Err(1);
     }
-    if row.len() > LONGEST {
+    if row.len() > MAX_COUNT {
         return Err(4);
     }
-    if row.iter().any(|n| *n == 0 || *n as u128 > LARGEST) {
+    if row.iter().any(|n| *n == 0 || *n as u128 > MAX_NUMBER) {
         return Err(3);
     }
     let mut text = format!("{:>5}{:>11}{:>5}{:>16}\n", "PLACE", "NUMBER", "BITS", "TOTAL");

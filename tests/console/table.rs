@@ -6,7 +6,7 @@ pub fn ones_at_end(bits: &[bool]) -> usize {
     bits.iter().rev().take_while(|bit| **bit).count()
 }
 
-fn stem(bits: &[bool]) -> &[bool] {
+fn body(bits: &[bool]) -> &[bool] {
     &bits[..bits.len() - ones_at_end(bits)]
 }
 
@@ -34,7 +34,7 @@ fn front(ones: usize, byte: u8) -> Vec<bool> {
     let (codewords, rest) = after(ones, byte);
     match codewords.first() {
         Some(codeword) => codeword[..codeword.len() - 3].to_vec(),
-        None => stem(&rest).to_vec(),
+        None => body(&rest).to_vec(),
     }
 }
 
@@ -59,8 +59,8 @@ pub fn row(ones: usize, byte: u8) -> String {
         value(&front, -1),
         inside(0),
         inside(1),
-        stem(&rest).len(),
-        value(stem(&rest), 0),
+        body(&rest).len(),
+        value(body(&rest), 0),
         ones_at_end(&rest)
     )
 }

@@ -124,7 +124,7 @@ impl Codec<'_> {
     pub fn row_case(&mut self) {
         let order = self.random.order();
         let row = encodings::row_with_faults(self.random, order);
-        let legal = (2..=6).contains(&order) && row.len() <= model::LONGEST && !row.contains(&0);
+        let legal = (2..=6).contains(&order) && row.len() <= model::MAX_COUNT && !row.contains(&0);
         let encoding = if legal { model::encoding(order, &row) } else { Vec::new() };
         let room = if legal { self.random.room(encoding.len()) } else { self.random.below(60) };
         let out = self.random.bytes(room);

@@ -14,7 +14,7 @@ pub fn number(random: &mut Random, order: usize) -> u32 {
         _ => {
             let m = if (2..=6).contains(&order) { order } else { 2 };
             let first = model::first_number(m, random.below(45)) + random.below(3) as u128 - 1;
-            first.clamp(1, model::LARGEST) as u32
+            first.clamp(1, model::MAX_NUMBER) as u32
         }
     }
 }
@@ -55,8 +55,8 @@ pub fn row_with_faults(random: &mut Random, order: usize) -> Vec<u32> {
 /// A codeword that is too large, a little or by far.
 fn too_large(random: &mut Random, m: usize) -> Vec<bool> {
     match random.below(3) {
-        0 => model::codeword(m, model::LARGEST + 1 + random.below(3) as u128),
-        1 => model::codeword(m, model::LARGEST + 1 + (random.next() as u128) * (1 + random.below(1 << 20) as u128)),
+        0 => model::codeword(m, model::MAX_NUMBER + 1 + random.below(3) as u128),
+        1 => model::codeword(m, model::MAX_NUMBER + 1 + (random.next() as u128) * (1 + random.below(1 << 20) as u128)),
         _ => {
             // digits that never have m ones in a row, then a 0 and m ones
             let len = random.one_of(&[50, 100, 1000, 20_000]) + random.below(50);

@@ -112,7 +112,7 @@ impl Codec<'_> {
     /// Every number up to 100,000, in rows.
     fn every_number(&mut self, order: usize) {
         let numbers: Vec<u32> = (1..=100_000).collect();
-        for row in numbers.chunks(model::LONGEST) {
+        for row in numbers.chunks(model::MAX_COUNT) {
             let s = model::encoding(order, row);
             self.write(order, row, &vec![0xA5; s.len()]);
             self.read(order, &s, &vec![7; row.len()]);

@@ -6,11 +6,12 @@ use crate::model::{self, Answer, Index, Refusal};
 use crate::random::Random;
 use crate::text::{bytes, numbers};
 
-type Held = Result<Index, Refusal>;
+/// Bytes as the model judges them: an index, or their refusal.
+type Checked = Result<Index, Refusal>;
 
 /// What the model answers of bytes: their refusal, or what the index that they are says.
-fn asked(held: &Held, question: impl Fn(&Index) -> Answer<(u64, u64)>) -> Told {
-    match held {
+fn model_answer(checked: &Checked, question: impl Fn(&Index) -> Answer<(u64, u64)>) -> Told {
+    match checked {
         Ok(index) => {
             let a = question(index);
             told(a.number, a.place, &[a.results.0, a.results.1])
@@ -38,19 +39,19 @@ fn rows(alphabet: u32, len: usize) -> impl Iterator<Item = Vec<u32>> {
     (0..alphabet.pow(len as u32)).map(move |code| (0..len).map(|place| number(code, place)).collect())
 }
 
-/// Bytes asked as an index of a row of `len` numbers.
-struct Asked<'a> {
+/// Bytes that are to be the index of a row of `len` numbers.
+struct Candidate<'a> {
     order: usize,
     alphabet: u32,
     len: usize,
     s: &'a [u8],
-    held: Held,
+    checked: Checked,
 }
 
-impl<'a> Asked<'a> {
-    fn new(order: usize, alphabet: u32, len: usize, s: &'a [u8]) -> Asked<'a> {
-        let held = model::index_of(order as u64, alphabet as u64, len as u64, s);
-        Asked { order, alphabet, len, s, held }
+impl<'a> Candidate<'a> {
+    fn new(order: usize, alphabet: u32, len: usize, s: &'a [u8]) -> Candidate<'a> {
+        let checked = model::index_of(order as u64, alphabet as u64, len as u64, s);
+        Candidate { order, alphabet, len, s, checked }
     }
 
     fn told(&self, question: &str) -> String {
@@ -74,21 +75,21 @@ impl Indexing<'_> {
         called
     }
 
-    fn extract(&mut self, index: &Asked, i: usize) {
+    fn extract(&mut self, index: &Candidate, i: usize) {
         let called = self.border.extract(index.order, index.alphabet, index.len, index.s, i);
-        let tells = asked(&index.held, |index| index.extract(i as u64));
+        let tells = model_answer(&index.checked, |index| index.extract(i as u64));
         self.ledger.compare("extract", &tells[0].to_string(), &called, tells, &[], || index.told(&format!("extract(i {i})")));
     }
 
-    fn rank(&mut self, index: &Asked, n: u32, i: usize) {
+    fn rank(&mut self, index: &Candidate, n: u32, i: usize) {
         let called = self.border.rank(index.order, index.alphabet, index.len, index.s, n, i);
-        let tells = asked(&index.held, |index| index.rank(n as u64, i as u64));
+        let tells = model_answer(&index.checked, |index| index.rank(n as u64, i as u64));
         self.ledger.compare("rank", &tells[0].to_string(), &called, tells, &[], || index.told(&format!("rank(n {n}, i {i})")));
     }
 
-    fn select(&mut self, index: &Asked, n: u32, j: usize) {
+    fn select(&mut self, index: &Candidate, n: u32, j: usize) {
         let called = self.border.select(index.order, index.alphabet, index.len, index.s, n, j);
-        let tells = asked(&index.held, |index| index.select(n as u64, j as u64));
+        let tells = model_answer(&index.checked, |index| index.select(n as u64, j as u64));
         self.ledger.compare("select", &tells[0].to_string(), &called, tells, &[], || index.told(&format!("select(n {n}, j {j})")));
     }
 
@@ -174,7 +175,7 @@ impl Indexing<'_> {
     }
 
     fn questions(&mut self, order: usize, alphabet: u32, len: usize, s: &[u8]) {
-        let index = Asked::new(order, alphabet, len, s);
+        let index = Candidate::new(order, alphabet, len, s);
         for _ in 0..4 {
             let i = self.random.around(len);
             self.extract(&index, i);
@@ -185,7 +186,7 @@ impl Indexing<'_> {
             let i = self.random.around(len);
             self.rank(&index, n, i);
             // uses around the last one
-            let uses = match &index.held {
+            let uses = match &index.checked {
                 Ok(index) => index.row.iter().filter(|x| **x == n).count(),
                 Err(_) => 0,
             };
@@ -194,7 +195,7 @@ impl Indexing<'_> {
         }
     }
 
-    fn ask(&mut self, index: &Asked, n: u32, i: usize, j: usize) {
+    fn ask(&mut self, index: &Candidate, n: u32, i: usize, j: usize) {
         self.extract(index, i);
         self.rank(index, n, i);
         self.select(index, n, j);
@@ -208,8 +209,8 @@ impl Indexing<'_> {
             for row in rows(alphabet, len) {
                 self.build(order, alphabet, &row, &[0xA5; 4]);
                 let s = index_of(order, alphabet, &row);
-                let index = Asked::new(order, alphabet, len, &s);
-                assert!(matches!(&index.held, Ok(held) if held.row == row));
+                let index = Candidate::new(order, alphabet, len, &s);
+                assert!(matches!(&index.checked, Ok(checked) if checked.row == row));
                 for i in 0..=len + 1 {
                     self.extract(&index, i);
                     for n in 0..=alphabet + 1 {
@@ -230,14 +231,14 @@ impl Indexing<'_> {
         for (order, alphabet, len) in small() {
             let mut taken = 0;
             for s in &strings {
-                let index = Asked::new(order, alphabet, len, s);
+                let index = Candidate::new(order, alphabet, len, s);
                 self.ask(&index, 1, 0, 1);
-                if let Ok(held) = &index.held {
+                if let Ok(checked) = &index.checked {
                     taken += 1;
                     for i in 1..len {
                         self.extract(&index, i);
                     }
-                    let built = self.build(order, alphabet, &held.row, &vec![0xA5; s.len()]);
+                    let built = self.build(order, alphabet, &checked.row, &vec![0xA5; s.len()]);
                     self.ledger.same("an index built again", &built.output, s, || index.told("extract"));
                 }
             }
@@ -249,7 +250,7 @@ impl Indexing<'_> {
     pub fn visits(&mut self) {
         for order in 2..=6 {
             for alphabet in (1..=16).chain([987, 988, 4095, 4096]) {
-                let index = Asked::new(order, alphabet, 0, &[]);
+                let index = Candidate::new(order, alphabet, 0, &[]);
                 for n in 1..=alphabet {
                     self.rank(&index, n, 0);
                 }
@@ -265,7 +266,7 @@ impl Indexing<'_> {
                     let row: Vec<u32> = (0..4096).map(|i| i * 2053 % modulus % alphabet + 1).collect();
                     self.build(order, alphabet, &row, &[0xA5; 8192]);
                     let s = index_of(order, alphabet, &row);
-                    let index = Asked::new(order, alphabet, 4096, &s);
+                    let index = Candidate::new(order, alphabet, 4096, &s);
                     for k in 0..=64 {
                         self.ask(&index, row[63 * k], 64 * k, k % 8);
                         self.ask(&index, 63 * k as u32 % (alphabet + 2), 63 * k, k % 3);
@@ -284,8 +285,8 @@ impl Indexing<'_> {
                     let row: Vec<u32> = (0..len).map(|i| if i % 2 == 0 { most } else { 1 }).collect();
                     let s = index_of(order, alphabet, &row);
                     self.build(order, alphabet, &row, &vec![0xA5; s.len()]);
-                    for asked in [len, len + 1, usize::MAX] {
-                        self.questions(order, alphabet, asked, &s);
+                    for length in [len, len + 1, usize::MAX] {
+                        self.questions(order, alphabet, length, &s);
                     }
                     let longer = [&s[..], &[0; 8193]].concat();
                     self.questions(order, alphabet, len, &longer);

@@ -91,7 +91,7 @@ impl Codec<'_> {
     pub fn everywhere(&mut self, order: usize, s: &[u8]) {
         let row = model::row_of(order as u64, s);
         let count = row.as_ref().map_or(0, |row| row.len());
-        let room = if row.is_ok() { count } else { (4 * s.len()).min(model::LONGEST) };
+        let room = if row.is_ok() { count } else { (4 * s.len()).min(model::MAX_COUNT) };
         let out = vec![9; room];
         self.read(order, s, &out);
         if order == 3 {
@@ -120,7 +120,7 @@ impl Codec<'_> {
 
     /// Codewords of every length that is legal begin, and so also end, at every bit of a word.
     fn legal_codewords(&mut self, order: usize) {
-        let longest = model::codeword(order, model::LARGEST).len();
+        let longest = model::codeword(order, model::MAX_NUMBER).len();
         for length in order..=longest {
             for begin in 0..WORD {
                 for digits in DIGITS {
@@ -183,7 +183,7 @@ impl Codec<'_> {
     /// The largest number and the next one begin at every bit of a word.
     fn limits_in_words(&mut self, order: usize) {
         for begin in 0..WORD {
-            for n in [model::LARGEST, model::LARGEST + 1] {
+            for n in [model::MAX_NUMBER, model::MAX_NUMBER + 1] {
                 let mut bits = before(self.random, order, begin);
                 bits.extend(model::codeword(order, n));
                 self.ended(order, bits);
@@ -195,7 +195,7 @@ impl Codec<'_> {
     /// number which refusal comes; the 4,096th and the 4,097th are then also too large.
     fn full_rows(&mut self, order: usize) {
         let rest = vec![false; 3 * WORD];
-        let too_large = [model::codeword(order, model::LARGEST + 1), rest.clone()].concat();
+        let too_large = [model::codeword(order, model::MAX_NUMBER + 1), rest.clone()].concat();
         let ends = [(4095, &[][..]), (4096, &[]), (4097, &[]), (4096, &rest), (4097, &rest), (4095, &too_large), (4096, &too_large)];
         for twos in 0..WORD {
             for (count, behind) in ends {

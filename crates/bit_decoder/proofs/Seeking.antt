@@ -31,7 +31,7 @@ pub record Seeking (m : ℕ) (b : List Bool) (from k len val run : ℕ) : Type 0
   pub within : k ≤ length b
   pub at : k ≡ from + (len + run)
   pub long : length body ≡ len
-  pub worth : first m len ≤ maxNumber → val ≡ value m 1 body
+  pub value-is : first m len ≤ maxNumber → val ≡ value m 1 body
   pub small : val ≤ maxNumber * k
 
 pub seeking-start : (m : ℕ) (b : List Bool) (from : ℕ) → from ≤ length b → Seeking m b from from 0 0 0
@@ -46,7 +46,7 @@ seeking-start m b from h =
       within = h;
       at = omega arith;
       long = refl;
-      worth = λ h. refl;
+      value-is = λ h. refl;
       small = omega arith;
     }
 
@@ -60,7 +60,7 @@ module _ {m : ℕ} {b : List Bool} {from k len val run : ℕ} (w : Seeking m b f
         at = w .at;
         within = w .within;
         long = w .long;
-        worth = w .worth;
+        value-is = w .value-is;
         small = w .small;
         ended = λ h. (
           omega (arith, w .few),
@@ -91,11 +91,11 @@ module _ {m : ℕ} {b : List Bool} {from k len val run : ℕ} (w : Seeking m b f
           within = omega arith;
           at = omega (arith, w .at);
           long = omega (arith, length-append (w .body) q, length-append (ones run) (false ∷ []), length-replicate run true, w .long);
-          worth = λ l.
+          value-is = λ l.
               let far : len + (run + 1) ≡ len + run + 1 = omega arith in
               let near : first m len ≤ maxNumber = omega (arith, first-rises m {j = len} {k = len + (run + 1)} (omega arith)) in
               let place : value m (1 + length (w .body)) (ones run) ≡ value m (len + 1) (ones run) = ap (λ (j : ℕ). value m j (ones run)) (omega (arith, w .long)) in
-              omega (arith, value-zero m (w .body) run, w .worth near, is (rw (← far) l));
+              omega (arith, value-zero m (w .body) run, w .value-is near, is (rw (← far) l));
           small = omega (arith, w .small);
         }
 
@@ -113,6 +113,6 @@ module _ {m : ℕ} {b : List Bool} {from k len val run : ℕ} (w : Seeking m b f
           within = omega arith;
           at = omega (arith, w .at);
           long = w .long;
-          worth = w .worth;
+          value-is = w .value-is;
           small = omega (arith, w .small);
         }

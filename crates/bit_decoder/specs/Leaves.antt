@@ -15,7 +15,7 @@ pub record Sought (m : ℕ) (b : List Bool) (from : ℕ) (r : Next) : Type 0 whe
   pub at : r .bit ≡ from + (r .len + r .run)
   pub within : r .bit ≤ length b
   pub long : length body ≡ r .len
-  pub worth : first m (r .len) ≤ maxNumber → r .val ≡ value m 1 body
+  pub value-is : first m (r .len) ≤ maxNumber → r .val ≡ value m 1 body
   pub small : r .val ≤ maxNumber * r .bit
   -- with m ones they are a codeword
   pub ended : m ≤ r .run → (r .run ≡ m) × Codeword m (body ++ ones m)

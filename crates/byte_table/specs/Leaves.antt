@@ -15,7 +15,7 @@ use Rattle.byte_table.specs.declared.Row.{Row}
 
 -- ## Bits and the ones at their end
 
--- A one in front of bits without the ones at their end: where nothing is left of them, it is one of those
+-- A one put before bits from which the ones at the end were taken off. Where no bit is left, that one stands at the end too, and is taken off as well
 abbrev pub prependOne : List Bool → List Bool
 prependOne [] = []
 prependOne (a ∷ b) = true ∷ a ∷ b
@@ -100,15 +100,15 @@ rowAt i = rowOfParse (parseByte (i / 256) (i % 256))
 
 -- ## How two words hold a row
 
--- All of it is small
+-- Each value fits its field of the words
 pub record Small (r : Row) : Type 0 where
   pub count : r .count ≤ 3
   pub len : r .len < 16
   pub coef0 : r .coef0 < 512
-  pub coef1 : r .coef1 < 512
+  pub coef1 : r .coef1 < 256
   pub coef2 : r .coef2 < 512
   pub second : r .second < 16
-  pub third : r .third < 16
+  pub third : r .third < 4
   pub rest-len : r .rest .len < 16
   pub rest-value : r .rest .value < 2 ^ 18
   pub rest-ones : r .rest .ones < 4

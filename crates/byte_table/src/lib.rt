@@ -6,7 +6,7 @@ ghost use Rattle.byte_table.specs.Leaves.{headWords, tailWords, position
 mod tables;
 
 use tables::HEADS;
-use tables::POSITIONS;
+use tables::POSITIONS_FROM_MINUS_TWO;
 use tables::TAILS;
 
 // What remains of a byte: how many bits up to the last zero, their value, and the trailing ones after it, 2 at most.
@@ -46,10 +46,10 @@ pub fn tails() -> [u32; 768]
     TAILS
 }
 
-pub fn positions() -> [u32; 40]
+pub fn positions_from_minus_two() -> [u32; 40]
     ensures { λ r. ⌜ r ≡ positionWords ⌝ }
 {
-    POSITIONS
+    POSITIONS_FROM_MINUS_TWO
 }
 
 // The row at 256 for each trailing one, plus the byte. Requires: the tables from above and at most two ones, which the table scan shows.

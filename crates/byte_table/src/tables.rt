@@ -1,4 +1,4 @@
-// The constant tables of the table decoder. The contracts of `heads`, `tails` and `positions` say what they hold.
+// The constant tables of the table decoder. The contracts of `heads`, `tails` and `positions_from_minus_two` say what they hold.
 
 // The first words of the 768 rows: what finishes the pending codeword.
 pub const HEADS: [u32; 768] = [
@@ -1545,7 +1545,7 @@ pub const TAILS: [u32; 768] = [
 ];
 
 // F(-2), F(-1), F(0), .. , F(37) of order 3.
-pub const POSITIONS: [u32; 40] = [
+pub const POSITIONS_FROM_MINUS_TWO: [u32; 40] = [
     0,
     0,
     1,

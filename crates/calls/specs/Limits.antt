@@ -16,7 +16,7 @@ within low high x = leb low x && leb x high
 unfoldable pub isOrder : ℕ → Bool
 isOrder m = within 2 6 m
 
--- .. as the contracts of leaves say it
+-- .. the same as a proposition
 abbrev pub Order : ℕ → Type 0
 Order m = (2 ≤ m) × (m ≤ 6)
 

@@ -54,7 +54,7 @@ pub struct Numbered {
     pub place: usize,
 }
 
-fn told(number: u64, place: usize) -> Numbered
+fn with_place(number: u64, place: usize) -> Numbered
     ensures { λ x. ⌜ (x .number ≡ number) × (x .place ≡ place) ⌝ }
 {
     Numbered { number, place }
@@ -64,26 +64,26 @@ pub fn reason(r: Refusal) -> Numbered
     ensures { λ x. ⌜ (x .number ≡ reason r .0) × (x .place ≡ reason r .1) ⌝ }
 {
     match r {
-        Refusal::BadOrder => told(1, 0),
-        Refusal::TooManyBytes => told(2, 0),
-        Refusal::PastBuffer => told(2, 0),
-        Refusal::BadNumber(place) => told(3, place),
-        Refusal::TooManyNumbers => told(4, 0),
-        Refusal::TooManyCodewords => told(4, 0),
-        Refusal::FullRow => told(4, 0),
-        Refusal::TooMuchInput => told(4, 0),
-        Refusal::NoRoom => told(5, 0),
-        Refusal::BadRest => told(6, 0),
-        Refusal::TooLarge(place) => told(7, place),
-        Refusal::BadSpan => told(8, 0),
-        Refusal::BadPlace => told(8, 0),
-        Refusal::BadUse => told(8, 0),
-        Refusal::BadAlphabet => told(9, 0),
-        Refusal::OutsideAlphabet(place) => told(10, place),
-        Refusal::NotAnIndex => told(11, 0),
-        Refusal::TooFewUses => told(12, 0),
-        Refusal::BadLine => told(13, 0),
-        Refusal::BadRepeats => told(14, 0),
+        Refusal::BadOrder => with_place(1, 0),
+        Refusal::TooManyBytes => with_place(2, 0),
+        Refusal::PastBuffer => with_place(2, 0),
+        Refusal::BadNumber(place) => with_place(3, place),
+        Refusal::TooManyNumbers => with_place(4, 0),
+        Refusal::TooManyCodewords => with_place(4, 0),
+        Refusal::FullRow => with_place(4, 0),
+        Refusal::TooMuchInput => with_place(4, 0),
+        Refusal::NoRoom => with_place(5, 0),
+        Refusal::BadRest => with_place(6, 0),
+        Refusal::TooLarge(place) => with_place(7, place),
+        Refusal::BadSpan => with_place(8, 0),
+        Refusal::BadPlace => with_place(8, 0),
+        Refusal::BadUse => with_place(8, 0),
+        Refusal::BadAlphabet => with_place(9, 0),
+        Refusal::OutsideAlphabet(place) => with_place(10, place),
+        Refusal::NotAnIndex => with_place(11, 0),
+        Refusal::TooFewUses => with_place(12, 0),
+        Refusal::BadLine => with_place(13, 0),
+        Refusal::BadRepeats => with_place(14, 0),
     }
 }
 

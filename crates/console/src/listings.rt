@@ -3,7 +3,7 @@ use crate::say;
 use calls::CountAnswer;
 
 // More than an input may have.
-const MAX_INPUT_BYTES: usize = 45100;
+const INPUT_ROOM: usize = 45100;
 
 // What `listing_text` makes of an input. `serve` puts the last line feed, as it does after every answer.
 fn listed(out: &mut [u8], input: &[u8], n: usize) -> usize {
@@ -33,7 +33,7 @@ fn put_row(input: &mut [u8], at: usize, row: &[u32]) -> usize {
 }
 
 pub fn of_row(out: &mut [u8], order: u64, row: &[u32]) -> usize {
-    let mut input = [0u8; MAX_INPUT_BYTES];
+    let mut input = [0u8; INPUT_ROOM];
     let at = put_line(&mut input, 0, order);
     let at = put_row(&mut input, at, row);
     listed(out, &input, at)
@@ -73,7 +73,7 @@ fn put_times(input: &mut [u8], times: u64, s: &[u8]) -> usize {
 }
 
 pub fn of_text(out: &mut [u8], times: u64, s: &[u8]) -> usize {
-    let mut input = [0u8; MAX_INPUT_BYTES];
+    let mut input = [0u8; INPUT_ROOM];
     let at = put_times(&mut input, times, s);
     listed(out, &input, at)
 }

@@ -11,10 +11,10 @@ use libc::STDIN_FILENO;
 use libc::STDOUT_FILENO;
 
 // The most bytes of a line: the longest row, the longest encoding and the largest index fit.
-const MOST_LINE: usize = 131071;
+const MAX_LINE: usize = 131071;
 
 // Room for every answer: 4,096 numbers with their codewords have the longest.
-const MOST_ANSWER: usize = 262144;
+const MAX_ANSWER: usize = 262144;
 
 // The line that is being read: how many of its bytes are in the buffer, and whether it had more than fit; and whether there is somebody to answer.
 struct Line {
@@ -124,7 +124,7 @@ fn each_turn(chunk: &mut [u8], buf: &mut [u8], out: &mut [u8]) {
 
 fn main() {
     let mut chunk = io::large_buffer();
-    let mut buf = [0u8; MOST_LINE];
-    let mut out = [0u8; MOST_ANSWER];
+    let mut buf = [0u8; MAX_LINE];
+    let mut out = [0u8; MAX_ANSWER];
     each_turn(&mut chunk, &mut buf, &mut out);
 }

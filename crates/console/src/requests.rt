@@ -190,6 +190,6 @@ pub fn table_value(n: &[u64; 5], b: u8) -> u64 {
     let heads = byte_table::heads();
     let tails = byte_table::tails();
     let r = byte_table::look_up(&heads, &tails, (n[0] % 3) as usize * 256 + b as usize);
-    let positions = byte_table::positions();
+    let positions = byte_table::positions_from_minus_two();
     byte_table::moved(&positions, (n[1] % 38) as usize, r.coef0, r.coef1, r.coef2)
 }

@@ -4,14 +4,14 @@ use crate::requests;
 use crate::say;
 use crate::texts;
 use crate::words;
-use crate::words::Found;
+use crate::words::Meaning;
 use answers::Answer;
 use std::num::wrapping_add_usize;
 
 // The most bytes and numbers that a request may have, and have room for. An appended codeword has at most 47 bits.
-const MAX_BYTES: usize = 24080;
+const BUFFER_BYTES: usize = 24080;
 
-const MOST_NUMBERS: usize = 4100;
+const MAX_NUMBERS: usize = 4100;
 
 const APPENDED: usize = 6;
 
@@ -139,10 +139,10 @@ fn begin(k: usize, s: &[u8], buf: &mut [u8]) {
 }
 
 fn into_bytes(out: &mut [u8], r: Request, n: &[u64; 5], row: &[u32], s: &[u8]) -> usize {
-    let mut buf = [0xA5u8; MAX_BYTES + APPENDED];
+    let mut buf = [0xA5u8; BUFFER_BYTES + APPENDED];
     begin(r.k, s, &mut buf);
     let size = r.size;
-    if size > MAX_BYTES + APPENDED {
+    if size > BUFFER_BYTES + APPENDED {
         return 0;
     }
     bytes_in(out, r, n, row, s, &mut buf[0..size])
@@ -155,9 +155,9 @@ fn row_in(out: &mut [u8], r: Request, order: u64, s: &[u8], row: &mut [u32]) -> 
 }
 
 fn into_row(out: &mut [u8], r: Request, order: u64, s: &[u8]) -> usize {
-    let mut row = [7777777u32; MOST_NUMBERS];
+    let mut row = [7777777u32; MAX_NUMBERS];
     let size = r.size;
-    if size > MOST_NUMBERS {
+    if size > MAX_NUMBERS {
         return 0;
     }
     row_in(out, r, order, s, &mut row[0..size])
@@ -192,7 +192,7 @@ fn each_codeword(out: &mut [u8], order: u64, row: &[u32]) -> usize {
 
 // The codewords of a row that writing accepts.
 fn codewords(out: &mut [u8], order: u64, row: &[u32]) -> usize {
-    let mut buf = [0u8; MAX_BYTES];
+    let mut buf = [0u8; BUFFER_BYTES];
     let a = requests::write(order, row, &mut buf);
     if a.number != 0 {
         return refusal(out, a);
@@ -240,10 +240,10 @@ fn with_list(out: &mut [u8], r: Request, n: &[u64; 5], row: &[u32], s: &[u8]) ->
 
 // A room that is named, where there is an output and it may be so large; else more than any.
 fn exactly(k: usize, n: u64) -> usize {
-    if requests::writes_bytes(k) && n <= MAX_BYTES as u64 {
+    if requests::writes_bytes(k) && n <= BUFFER_BYTES as u64 {
         return n as usize;
     }
-    if requests::writes_row(k) && n <= MOST_NUMBERS as u64 {
+    if requests::writes_row(k) && n <= MAX_NUMBERS as u64 {
         return n as usize;
     }
     usize::MAX
@@ -254,9 +254,9 @@ fn enough(k: usize, len: usize) -> usize {
         return wrapping_add_usize(len, APPENDED);
     }
     if requests::writes_row(k) {
-        MOST_NUMBERS
+        MAX_NUMBERS
     } else {
-        MAX_BYTES
+        BUFFER_BYTES
     }
 }
 
@@ -286,23 +286,23 @@ fn request_of(k: usize, room: Room, len: usize) -> Request {
 
 // The row or the bytes from a place of the line on.
 fn listed(out: &mut [u8], k: usize, room: Room, n: &[u64; 5], line: &[u8], at: usize) -> usize {
-    let mut list = [0u32; MAX_BYTES];
-    let mut s = [0u8; MAX_BYTES];
+    let mut list = [0u32; BUFFER_BYTES];
+    let mut s = [0u8; BUFFER_BYTES];
     let has_row = requests::has_row(k);
-    let Found::Count(count) = words::elements(!has_row, line, at, &mut list) else {
+    let Meaning::Count(count) = words::elements(!has_row, line, at, &mut list) else {
         return 0;
     };
     words::narrowed(&list, &mut s);
     let numbers = if has_row { count } else { 0 };
     let bytes = if has_row { 0 } else { count };
     let r = request_of(k, room, count);
-    if numbers > MAX_BYTES {
+    if numbers > BUFFER_BYTES {
         return 0;
     }
-    if bytes > MAX_BYTES {
+    if bytes > BUFFER_BYTES {
         return 0;
     }
-    if r.size > MAX_BYTES + APPENDED {
+    if r.size > BUFFER_BYTES + APPENDED {
         return 0;
     }
     with_list(out, r, n, &list[0..numbers], &s[0..bytes])
@@ -338,7 +338,7 @@ fn requested(out: &mut [u8], k: usize, room: Room, line: &[u8], at: usize) -> us
     if numbers > 5 {
         return 0;
     }
-    let Found::Count(at) = words::arguments(line, at, &mut n[0..numbers]) else {
+    let Meaning::Count(at) = words::arguments(line, at, &mut n[0..numbers]) else {
         return 0;
     };
     if !requests::is_fit(k, &n) {
@@ -380,7 +380,7 @@ fn room_of(k: usize, n: u64) -> Room {
 // A number, and then a request, behind `room` or `used`.
 fn with_room(out: &mut [u8], k: usize, line: &[u8], at: usize) -> usize {
     let mut n = [0u64; 1];
-    let Found::Count(at) = words::arguments(line, at, &mut n) else {
+    let Meaning::Count(at) = words::arguments(line, at, &mut n) else {
         return expected(out, k);
     };
     after(out, room_of(k, n[0]), line, at)

@@ -4,7 +4,7 @@ ghost use lib.ListN.{length};
 use calls::least;
 
 // What words say: a number, or how many elements of a list, or where on the line to go on; or that they have another form.
-pub enum Found {
+pub enum Meaning {
     Number(u64),
     Count(usize),
     Malformed,
@@ -69,67 +69,67 @@ fn digit(b: u8) -> u64
 }
 
 // A decimal number with a digit more; the largest of 64 bits and no more.
-fn with_digit(n: u64, d: u64) -> Found {
+fn with_digit(n: u64, d: u64) -> Meaning {
     if d > 9 {
-        return Found::Malformed;
+        return Meaning::Malformed;
     }
     if n > (u64::MAX - d) / 10 {
-        return Found::Malformed;
+        return Meaning::Malformed;
     }
-    Found::Number(10 * n + d)
+    Meaning::Number(10 * n + d)
 }
 
 // A decimal number.
-fn decimal(word: &[u8]) -> Found {
+fn decimal(word: &[u8]) -> Meaning {
     if word.len() == 0 {
-        return Found::Malformed;
+        return Meaning::Malformed;
     }
     let mut n: u64 = 0;
     for i in 0..word.len() {
-        let Found::Number(more) = with_digit(n, digit(word[i])) else {
-            return Found::Malformed;
+        let Meaning::Number(more) = with_digit(n, digit(word[i])) else {
+            return Meaning::Malformed;
         };
         n = more;
     }
-    Found::Number(n)
+    Meaning::Number(n)
 }
 
 // A byte, two hexadecimal digits.
-fn byte(word: &[u8]) -> Found {
+fn byte(word: &[u8]) -> Meaning {
     if word.len() != 2 {
-        return Found::Malformed;
+        return Meaning::Malformed;
     }
     let high = digit(word[0]);
     let low = digit(word[1]);
     if high < 16 && low < 16 {
-        Found::Number(16 * high + low)
+        Meaning::Number(16 * high + low)
     } else {
-        Found::Malformed
+        Meaning::Malformed
     }
 }
 
 // ## Numbers
 
 // The next words as decimal numbers, as many as the list has: where they end.
-pub fn arguments(line: &[u8], at: usize, list: &mut [u64]) -> Found {
+pub fn arguments(line: &[u8], at: usize, list: &mut [u64]) -> Meaning {
     let mut at = at;
     for k in 0..list.len() {
         let w = next(line, at);
         let from = w.from;
         let to = w.to;
-        let Found::Number(n) = decimal(&line[from..to]) else {
-            return Found::Malformed;
+        let Meaning::Number(n) = decimal(&line[from..to]) else {
+            return Meaning::Malformed;
         };
         list[k] = n;
         at = to;
     }
-    Found::Count(at)
+    Meaning::Count(at)
 }
 
 // ## Lists
 
 // An element of a row or, in hexadecimal, of bytes.
-fn element(hexadecimal: bool, word: &[u8]) -> Found {
+fn element(hexadecimal: bool, word: &[u8]) -> Meaning {
     if hexadecimal {
         byte(word)
     } else {
@@ -150,11 +150,11 @@ fn cross(word: &[u8]) -> usize
 }
 
 // How often an element stands there: the number after its x, and else once. Requires: where the element ends in the word, as it was found.
-fn times(word: &[u8], end: usize) -> Found
+fn times(word: &[u8], end: usize) -> Meaning
     requires { ⌜ end ≤ length (now word) ⌝ }
 {
     if end == word.len() {
-        Found::Number(1)
+        Meaning::Number(1)
     } else {
         decimal(&word[end + 1..])
     }
@@ -167,35 +167,35 @@ fn fill(list: &mut [u32], n: u64) {
 }
 
 // So many elements more in a list that has some: how many it has then.
-fn put(list: &mut [u32], used: usize, n: u64, times: u64) -> Found {
+fn put(list: &mut [u32], used: usize, n: u64, times: u64) -> Meaning {
     if n > 4294967295 {
-        return Found::Malformed;
+        return Meaning::Malformed;
     }
     if used > list.len() {
-        return Found::Malformed;
+        return Meaning::Malformed;
     }
     if times > (list.len() - used) as u64 {
-        return Found::Malformed;
+        return Meaning::Malformed;
     }
     let end = used + times as usize;
     fill(&mut list[used..end], n);
-    Found::Count(end)
+    Meaning::Count(end)
 }
 
 // A word as `600` or `1x4096`, or as `6B` or `FFx1024`.
-fn put_word(list: &mut [u32], used: usize, hexadecimal: bool, word: &[u8]) -> Found {
+fn put_word(list: &mut [u32], used: usize, hexadecimal: bool, word: &[u8]) -> Meaning {
     let end = cross(word);
-    let Found::Number(n) = element(hexadecimal, &word[0..end]) else {
-        return Found::Malformed;
+    let Meaning::Number(n) = element(hexadecimal, &word[0..end]) else {
+        return Meaning::Malformed;
     };
-    let Found::Number(k) = times(word, end) else {
-        return Found::Malformed;
+    let Meaning::Number(k) = times(word, end) else {
+        return Meaning::Malformed;
     };
     put(list, used, n, k)
 }
 
 // The words from a place on, as a row or as bytes: how many elements. A line has no more words than bytes.
-pub fn elements(hexadecimal: bool, line: &[u8], at: usize, list: &mut [u32]) -> Found {
+pub fn elements(hexadecimal: bool, line: &[u8], at: usize, list: &mut [u32]) -> Meaning {
     let mut at = at;
     let mut used: usize = 0;
     for k in 0..line.len() {
@@ -203,15 +203,15 @@ pub fn elements(hexadecimal: bool, line: &[u8], at: usize, list: &mut [u32]) -> 
         let from = w.from;
         let to = w.to;
         if from == to {
-            return Found::Count(used);
+            return Meaning::Count(used);
         }
-        let Found::Count(more) = put_word(list, used, hexadecimal, &line[from..to]) else {
-            return Found::Malformed;
+        let Meaning::Count(more) = put_word(list, used, hexadecimal, &line[from..to]) else {
+            return Meaning::Malformed;
         };
         used = more;
         at = to;
     }
-    Found::Count(used)
+    Meaning::Count(used)
 }
 
 // The same elements as bytes, as far as there is room.

@@ -21,7 +21,7 @@ use Rattle.calls.specs.Limits.{Order, isNumber, Legal, maxNumber, maxCount}
 use Rattle.calls.specs.Reading.{contents}
 use Rattle.calls.proofs.Checks.{number-is, positive}
 use Rattle.reading.specs.Reading.{fibonacci}
-use Rattle.reading.specs.Leaves.{Numbered, isPadding}
+use Rattle.reading.specs.Leaves.{NumberOf, isPadding}
 use Rattle.reading.proofs.Checking.{padding-is, padding-not, contents-many, contents-large, contents-rest, contents-good, numbered-legal, numbered-large}
 use Rattle.word_decoder.specs.Leaves.{DecodedPrefix, Taken}
 use Rattle.word_decoder.proofs.Taking.{taken-more}
@@ -76,9 +76,9 @@ module _ (s : List ℕ) {m limit bit count : ℕ} {row : List ℕ} {r : Next} (o
     step-many c = contents-many limit m s row (g .taken .legal) x (numbers m behind) go-on (g .many ∙ c)
 
     -- n was found for its number
-    module _ (n : ℕ) (is : Numbered m (r .len) (r .val) n) (top : limit ≤ maxNumber) (less : count ≡ maxCount → ⊥) where
+    module _ (n : ℕ) (is : NumberOf m (r .len) (r .val) n) (top : limit ≤ maxNumber) (less : count ≡ maxCount → ⊥) where
       near : first m (r .len) ≤ maxNumber → x ≡ first m (r .len) + r .val
-      near h = omega (arith, x-is, t .worth h)
+      near h = omega (arith, x-is, t .value-is h)
 
       far : maxNumber < first m (r .len) → maxNumber < x
       far h = omega (arith, x-is)
@@ -121,7 +121,7 @@ module _ (s : List ℕ) {m limit bit count : ℕ} {row : List ℕ} {r : Next} (o
         ∙ onto-parsed words rest
 
     short : r .len < 8 → (length (t .body) ≡ r .len) × (r .val ≡ value m 1 (t .body))
-    short l = (t .long, t .worth (first-few m (r .len) o (omega arith)))
+    short l = (t .long, t .value-is (first-few m (r .len) o (omega arith)))
 
     far-off : 8 ≤ r .len → 8 ≤ length (t .body)
     far-off l = omega (arith, t .long)

@@ -13,7 +13,7 @@ ghost use Rattle.reading.specs.Reading.{fibonacci, ReadPromise};
 ghost use Rattle.reading.specs.Leaves.{Scanned};
 ghost use Rattle.decoder.specs.Leaves.{summary, spanOutcome, Leads};
 
-// So many bytes are read by words, and fewer bit by bit: sooner than a table of values is made.
+// From this many bytes on, words are faster than bits, in spite of the table that they need.
 const WORDS_FROM: usize = 17;
 
 // What stands next in an encoding: a number and the bit after its codeword; the end of the row; or why the encoding is refused.

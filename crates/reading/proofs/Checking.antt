@@ -22,7 +22,7 @@ use Rattle.calls.proofs.Finished.{finished-all, finished-many, finished-large, 
 use Rattle.fibonacci.proofs.Numeration.{F-pos}
 use Rattle.fibonacci.proofs.Numbers.{first-pos}
 use Rattle.reading.specs.Reading.{isBadRest, fibonacci}
-use Rattle.reading.specs.Leaves.{Numbered, isPadding}
+use Rattle.reading.specs.Leaves.{NumberOf, isPadding}
 
 -- ## Pending bits at the end
 
@@ -139,7 +139,7 @@ numbers-positive m b = coded-positive m (codewords (parse m b))
 -- ## A number by its length and its value
 
 -- n was found for the codeword's own number x: it passes the check only where it is x, and fails only where x is above the limit
-module _ (m len val n : ℕ) (is : Numbered m len val n) (x : ℕ) (near : first m len ≤ maxNumber → x ≡ first m len + val) (far : maxNumber < first m len → maxNumber < x)
+module _ (m len val n : ℕ) (is : NumberOf m len val n) (x : ℕ) (near : first m len ≤ maxNumber → x ≡ first m len + val) (far : maxNumber < first m len → maxNumber < x)
     (limit : ℕ) (top : limit ≤ maxNumber) where
   pub numbered-legal : isNumber limit n ≡ true → n ≡ x
   numbered-legal l =

@@ -13,8 +13,8 @@ use Rattle.calls.specs.Calls.{Outcome, accepted, refused, answerResults, check,
 use Rattle.calls.specs.Limits.{maxNumber}
 
 -- n is the number of a codeword with `len` bits before its last ones, whose value is `val`, as far as a number of that length can be legal; else it is 0
-abbrev pub Numbered : ℕ → ℕ → ℕ → ℕ → Type 0
-Numbered m len val n = (first m len ≤ maxNumber → n ≡ first m len + val) × (maxNumber < first m len → n ≡ 0)
+abbrev pub NumberOf : ℕ → ℕ → ℕ → ℕ → Type 0
+NumberOf m len val n = (first m len ≤ maxNumber → n ≡ first m len + val) × (maxNumber < first m len → n ≡ 0)
 
 -- Whether what is pending at the end is padding, by its length and value before its trailing ones, and by these
 abbrev pub isPadding : ℕ → ℕ → ℕ → Bool

@@ -3,13 +3,13 @@ ghost use mathlib.Core.Path.{_≡_};
 ghost use Prim.Native.Nat.{_^_, _<_};
 ghost use lib.ListN.{length};
 ghost use Rattle.fibonacci.specs.Leaves.{Firsts};
-ghost use Rattle.reading.specs.Leaves.{Numbered, isPadding, Holds, Delivers};
+ghost use Rattle.reading.specs.Leaves.{NumberOf, isPadding, Holds, Delivers};
 
 // The number of a codeword by the bits before its last ones and their value; 0 where it is above 4,294,967,295 by its length alone. Requires: the first
 // numbers of an order in use, and a value below 2^63, which the readers show: each bit or byte of an encoding adds little to a value.
 pub fn number(firsts: &[u32; 47], order: usize, len: usize, val: u64) -> u64
     requires { ⌜ Firsts order (now firsts) × (val < 2 ^ 63) ⌝ }
-    ensures { λ r. ⌜ Numbered order len val r ⌝ }
+    ensures { λ r. ⌜ NumberOf order len val r ⌝ }
 {
     let least = fibonacci::first_number(firsts, order, len);
     if least == 0 { 0 } else { least + val }

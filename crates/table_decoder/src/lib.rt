@@ -23,7 +23,7 @@ fn scan_into(s: &[u8], limit: u64, row: &mut [u32; table_scan::ROOM]) -> CountAn
     }
     let heads = byte_table::heads();
     let tails = byte_table::tails();
-    let positions = byte_table::positions();
+    let positions = byte_table::positions_from_minus_two();
     let firsts = fibonacci::first_numbers(3);
     table_scan::walk(&heads, &tails, &positions, &firsts, s, limit, row)
 }

@@ -22,7 +22,7 @@ use Rattle.calls.proofs.Checks.{number-is, above-number}
 use Rattle.byte_table.specs.declared.Row.{Row}
 use Rattle.byte_table.specs.Leaves.{withoutTrailing, trailingOnes, parseByte, finishing, insideNumbers, value0, value1, value2, moved, rowOfParse, rowAt, Small}
 use Rattle.reading.specs.Reading.{fibonacci}
-use Rattle.reading.specs.Leaves.{Numbered, isPadding}
+use Rattle.reading.specs.Leaves.{NumberOf, isPadding}
 use Rattle.reading.proofs.Reached.{Reached, reached-start, reached-open, reached-shut, reached-numbers, reached-end}
 use Rattle.reading.proofs.Checking.{padding-is, padding-not, contents-many, contents-past, contents-rest, contents-good, number-positive, coded-positive, numbered-legal, numbered-large}
 use Rattle.table_scan.specs.Leaves.{Passes, faultAt}
@@ -208,7 +208,7 @@ module _ {limit : ℕ} {s : List ℕ} {i : ℕ} {row : List ℕ} {count len val 
           (omega (arith, done-long, k .most))
 
       -- n was found for its number, and of the numbers that end so many pass
-      module _ (n : ℕ) (is : Numbered 3 (len + r .len) (val + v) n) (top : limit ≤ maxNumber) (good : ℕ) (passes : Passes (isNumber limit n) limit (r .second) (r .third) good) where
+      module _ (n : ℕ) (is : NumberOf 3 (len + r .len) (val + v) n) (top : limit ≤ maxNumber) (good : ℕ) (passes : Passes (isNumber limit n) limit (r .second) (r .third) good) where
         -- n is legal where the number is
         alike : isNumber limit n ≡ isNumber limit (number 3 ended)
         alike = by (isNumber limit n) refl

@@ -15,7 +15,7 @@ use Rattle.byte_table.specs.Leaves.{headWords, tailWords, positionWords}
 use Rattle.reading.specs.Leaves.{Scanned}
 
 -- The tables that are handed down
-pub record Tables (heads tails positions firsts : List ℕ) : Type 0 where
+pub record ByteTables (heads tails positions firsts : List ℕ) : Type 0 where
   pub heads-are : heads ≡ headWords
   pub tails-are : tails ≡ tailWords
   pub positions-are : positions ≡ positionWords
@@ -24,7 +24,7 @@ pub record Tables (heads tails positions firsts : List ℕ) : Type 0 where
 -- What the scan is given: the tables, an encoding that is not too long, a limit, and a list with room for all that it may store
 abbrev pub ScanInput : List ℕ → List ℕ → List ℕ → List ℕ → List ℕ → ℕ → List ℕ → Type 0
 ScanInput heads tails positions firsts s limit list =
-    Tables heads tails positions firsts × (length s ≤ maxBytes) × (limit ≤ maxNumber) × (length list ≡ 4098)
+    ByteTables heads tails positions firsts × (length s ≤ maxBytes) × (limit ≤ maxNumber) × (length list ≡ 4098)
 
 -- What it leaves: its answer, its list, and that as long as it was
 abbrev pub ScanResult : Outcome (List ℕ) → CountAnswer → List ℕ → Type 0

@@ -20,11 +20,11 @@ use Rattle.wavelet.proofs.Trees.{Under, map-length, visits-leaf}
 use Rattle.wavelet.proofs.Ends.{mid-is}
 use Rattle.wavelet.proofs.Walking.{is-node, is-leaf, leaf-only, end-leaf, end-short, end-cut, end-on}
 use Rattle.wavelet.proofs.Sides.{count-side, row-side, before-side, place-bit, extract-side, visits-side, node-need, node-under}
-use Rattle.wavelet_walk.specs.Leaves.{told, atLeaf, InView, turn, onward, back, Goes, Arrived, Finds}
+use Rattle.wavelet_walk.specs.Leaves.{answerOf, atLeaf, InView, turn, onward, back, Goes, Arrived, Finds}
 use Rattle.wavelet_walk.specs.declared.Question.{Question}
 use Rattle.wavelet_walk.specs.declared.Question.the-variants.{Extract, Rank, Select}
 use Rattle.wavelet_walk.specs.declared.Walked.{Walked}
-use Rattle.wavelet_walk.proofs.Questions.{told-same, told-side, goes-side}
+use Rattle.wavelet_walk.proofs.Questions.{answer-same, answer-side, goes-side}
 
 -- the walk's number at a leaf
 leaf-goes : (question : Question) {m N f : ℕ} {q : List Bool} {v : Cursor} → CursorAt m N f q v → nodeTest m N v ≡ false → (x n : ℕ) → Goes question m N q x n → v .number ≡ n
@@ -45,7 +45,7 @@ module _ (m N : ℕ) (v : Cursor) (k : ℕ) (s : List ℕ) (at : ℕ) (question 
           some = n .0;
           most = h .small;
           below = n .1;
-          found = rw t (unfold rowOfBitmaps in is ∙ told-same question (v .number) k i view);
+          found = rw t (unfold rowOfBitmaps in is ∙ answer-same question (v .number) k i view);
           visited = rw (t, visits-leaf m (v .number) (v .number)) (sym (add-zero (v .depth)));
           at-place = λ a lt. rw t (unfold rowOfBitmaps in sym (getD-replicate k i (v .number) 0 lt));
           at-codeword = λ n g. leaf-goes question h e x n g;
@@ -107,8 +107,8 @@ module _ (m N : ℕ) (v : Cursor) (k : ℕ) (s : List ℕ) (at : ℕ) (question 
                 some = r .some;
                 most = r .most;
                 below = begins-front q (codeword m n) a (r .below);
-                found = results ∙ ap (back question a (take k (drop at b))) (r .found ∙ ap (told question n (onward question a (drop at b) i)) (sym row))
-                    ∙ sym (told-side question m q z o u k (drop at b) d a n (r .below) i view);
+                found = results ∙ ap (back question a (take k (drop at b))) (r .found ∙ ap (answerOf question n (onward question a (drop at b) i)) (sym row))
+                    ∙ sym (answer-side question m q z o u k (drop at b) d a n (r .below) i view);
                 visited = omega (arith, r .visited, visits-side m q z o u a n (r .below));
                 at-place = λ p lt.
                     let le : i ≤ k = omega arith in

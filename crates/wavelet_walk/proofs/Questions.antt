@@ -19,7 +19,7 @@ use Rattle.wavelet.specs.declared.Cursor.{Cursor}
 use Rattle.wavelet.proofs.Merging.{rank-same, select-same, select-same-none}
 use Rattle.wavelet.proofs.Trees.{Under, zeroSide, oneSide}
 use Rattle.wavelet.proofs.Sides.{count-side, place-fits, rank-side, select-side, aligned-side}
-use Rattle.wavelet_walk.specs.Leaves.{told, atLeaf, InView, turn, onward, back, Goes}
+use Rattle.wavelet_walk.specs.Leaves.{answerOf, atLeaf, InView, turn, onward, back, Goes}
 use Rattle.wavelet_walk.specs.declared.Question.{Question}
 use Rattle.wavelet_walk.specs.declared.Question.the-variants.{Extract, Rank, Select}
 use Rattle.wavelet_walk.proofs.Question.{the-type}
@@ -69,23 +69,23 @@ view-side Extract k b at e fits ones i v a = place-fits k b at e fits ones i v a
 view-side Rank k b at e fits ones i v a = place-fits k b at e fits ones i v a
 view-side Select k b at e fits ones i v a = tt
 
--- ## What is told
+-- ## What is answered
 
 -- of a row of one number
-pub told-same : (question : Question) (n k i : ℕ) → InView question i k → atLeaf question n k i ≡ told question n i (replicate k n)
-told-same Extract n k i v = refl
-told-same Rank n k i v = sym (rank-same k n i v)
-told-same Select n k i v = elim (decLe k i) [ yes h ↦ omega (arith, select-same-none k n i h) | no h ↦ omega (arith, select-same k n i (omega arith)) ]
+pub answer-same : (question : Question) (n k i : ℕ) → InView question i k → atLeaf question n k i ≡ answerOf question n i (replicate k n)
+answer-same Extract n k i v = refl
+answer-same Rank n k i v = sym (rank-same k n i v)
+answer-same Select n k i v = elim (decLe k i) [ yes h ↦ omega (arith, select-same-none k n i h) | no h ↦ omega (arith, select-same k n i (omega arith)) ]
 
 -- of the row below a node, by the side of the number
-pub told-side : (question : Question) (m : ℕ) (q : List Bool) (z o : Tree) → Under m q (node q z o) → (k : ℕ) (b : List Bool) → need (node q z o) k b ≤ length b
+pub answer-side : (question : Question) (m : ℕ) (q : List Bool) (z o : Tree) → Under m q (node q z o) → (k : ℕ) (b : List Bool) → need (node q z o) k b ≤ length b
     → (a : Bool) (n : ℕ) → isPrefix (q ++ (a ∷ [])) (codeword m n) ≡ true → (i : ℕ) → InView question i k
-    → told question n i (rowOfBitmaps (node q z o) k b) ≡ back question a (take k b) (told question n (onward question a b i) (side a (zeroSide z k b) (oneSide z o k b)))
-told-side Extract m q z o u k b d a n g i v = refl
-told-side Rank m q z o u k b d a n g i v =
+    → answerOf question n i (rowOfBitmaps (node q z o) k b) ≡ back question a (take k b) (answerOf question n (onward question a b i) (side a (zeroSide z k b) (oneSide z o k b)))
+answer-side Extract m q z o u k b d a n g i v = refl
+answer-side Rank m q z o u k b d a n g i v =
     rank-side m q z o u k b d a n g i v
     ∙ ap (λ (l : List Bool). rankIn (side a (zeroSide z k b) (oneSide z o k b)) n (count a l)) (take-take i k b v)
-told-side Select m q z o u k b d a n g i v = select-side m q z o u k b d a n g i
+answer-side Select m q z o u k b d a n g i v = select-side m q z o u k b d a n g i
 
 -- the codeword goes on to the side taken
 pub goes-side : (question : Question) {m N f : ℕ} {q : List Bool} {v : Cursor} → CursorAt m N f q v → v .ones < m → v .depth < 32 → (x n : ℕ) → Goes question m N q x n

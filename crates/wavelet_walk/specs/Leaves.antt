@@ -22,10 +22,10 @@ use Rattle.wavelet_walk.specs.declared.Walked.{Walked}
 -- ## What a question asks, with place or use i in view
 
 -- Of a row, about the number n: n itself; how often it stands before place i; the place of its use that has i others before it
-abbrev pub told : Question → ℕ → ℕ → List ℕ → ℕ
-told Extract n i row = n
-told Rank n i row = rankIn row n i
-told Select n i row = selectBit true i (uses n row)
+abbrev pub answerOf : Question → ℕ → ℕ → List ℕ → ℕ
+answerOf Extract n i row = n
+answerOf Rank n i row = rankIn row n i
+answerOf Select n i row = selectBit true i (uses n row)
 
 -- .. where the row is k times n
 abbrev pub atLeaf : Question → ℕ → ℕ → ℕ → ℕ
@@ -81,7 +81,7 @@ pub record Arrived (m N : ℕ) (q : List Bool) (t : Tree) (b : List Bool) (k : �
   pub most : number ≤ N
   pub below : isPrefix q (codeword m number) ≡ true
   -- and finds what is asked of it, and how many nodes begin its codeword, those above q among them
-  pub found : r .result ≡ told question number i (rowOfBitmaps t k b)
+  pub found : r .result ≡ answerOf question number i (rowOfBitmaps t k b)
   pub visited : r .visits ≡ depth + visitsIn m t number
   -- it is the number at place i, or that of the codeword
   pub at-place : question ≡ Extract → i < k → number ≡ getD (rowOfBitmaps t k b) i 0
@@ -104,7 +104,7 @@ Askable Select N k n i = isNumber N n ≡ true
 abbrev pub Tells : ℕ → ℕ → List ℕ → Question → ℕ → ℕ → ℕ → ℕ → Type 0
 Tells m N row question n i result seen =
     let c = concerned question n i row in
-    (result ≡ told question c i row) × (seen ≡ visits m N c)
+    (result ≡ answerOf question c i row) × (seen ≡ visits m N c)
 
 -- It refuses what the questions refuse before they look at what they are asked for. Else they go on, and the walk has their answer for what is legal
 abbrev pub Walks : ℕ → ℕ → ℕ → List ℕ → Question → ℕ → ℕ → QuestionAnswer → Type 0

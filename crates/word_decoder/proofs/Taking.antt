@@ -21,9 +21,9 @@ use Rattle.fibonacci.proofs.Lookup as lookup
 use Rattle.fibonacci.proofs.Numbers.{first-pos, codeword-number, number-of}
 use Rattle.fibonacci.proofs.Rows.{bits-append}
 use Rattle.word_windows.specs.declared.Window.{Window}
-use Rattle.word_windows.specs.Leaves.{bodyNumber, ExactIfLegal, MarksRuns, runStarts, WindowAt, LoadedWindow}
+use Rattle.word_windows.specs.Leaves.{bodyNumber, ExactIfLegal, RunStarts, runStarts, WindowAt, LoadedWindow}
 use Rattle.word_decoder.specs.Leaves.{Taken, Stopped, full, short, pending, large}
-use Rattle.word_windows.proofs.Starts.{up, words-up, starts-zeros, starts-runs, starts-up, mark-one, mark-none, first-within, first-ends, first-coded, first-zero}
+use Rattle.word_windows.proofs.Starts.{up, words-up, starts-zeros, starts-runs, starts-up, first-start, no-start-before, first-within, first-ends, first-coded, first-zero}
 
 -- ## The first codeword of a word
 
@@ -55,22 +55,22 @@ module _ {b : List Bool} {k w : ℕ} (a : WindowAt b k w) where
             (replicate-append-replicate (a .others) t false);
       }
 
-  -- the marks are those of its bits
-  marked : (m y : ℕ) → 1 ≤ m → wordBits 64 y ≡ runStarts m (wordBits 64 w) → (i : ℕ) → getD (wordBits 64 y) i false ≡ getD (runStarts m windowBits) i false
-  marked m y pos marks i =
-      ap (λ (l : List Bool). getD l i false) (marks ∙ ap (runStarts m) (a .bits) ∙ starts-zeros m windowBits (a .others) pos)
+  -- the run starts are those of its bits
+  window-starts : (m y : ℕ) → 1 ≤ m → wordBits 64 y ≡ runStarts m (wordBits 64 w) → (i : ℕ) → getD (wordBits 64 y) i false ≡ getD (runStarts m windowBits) i false
+  window-starts m y pos starts-are i =
+      ap (λ (l : List Bool). getD l i false) (starts-are ∙ ap (runStarts m) (a .bits) ∙ starts-zeros m windowBits (a .others) pos)
       ∙ filled-default (runStarts m windowBits) (a .others) i false
 
-  module _ (m y : ℕ) (pos : 1 ≤ m) (marks : wordBits 64 y ≡ runStarts m (wordBits 64 w)) (some : 1 ≤ y) (low : y < 2 ^ 64) where
+  module _ (m y : ℕ) (pos : 1 ≤ m) (starts-are : wordBits 64 y ≡ runStarts m (wordBits 64 w)) (some : 1 ≤ y) (low : y < 2 ^ 64) where
     -- how many bits stand before the last ones of the first codeword
     abbrev body : ℕ
     body = leadingZeros 64 y
 
     one : getD (runStarts m windowBits) body false ≡ true
-    one = sym (marked m y pos marks body) ∙ mark-one 64 y some low
+    one = sym (window-starts m y pos starts-are body) ∙ first-start 64 y some low
 
     none : (i : ℕ) → i < body → getD (runStarts m windowBits) i false ≡ false
-    none i h = sym (marked m y pos marks i) ∙ mark-none 64 y some low i h
+    none i h = sym (window-starts m y pos starts-are i) ∙ no-start-before 64 y some low i h
 
     pub codeword-within : body + m ≤ a .some
     codeword-within = omega (arith, first-within m pos windowBits body one none, windowBits-length)
@@ -137,7 +137,7 @@ stopped-window {m} {limit} {b} {bit} {count} {most} w pos a none =
     windowed = take (a .window .some) (drop bit b)
 
     at : (i : ℕ) → getD (wordBits 64 (w .starts)) i false ≡ getD (runStarts m windowed) i false
-    at i = marked (a .window) m (w .starts) pos (a .marked .0) i
+    at i = window-starts (a .window) m (w .starts) pos (a .starts-are .0) i
 
     zero-bits : (i : ℕ) → getD (wordBits 64 (w .starts)) i false ≡ false
     zero-bits i = rw (none, words-zero 64) (filled-default [] 64 i false)
@@ -152,28 +152,28 @@ stopped-before count' most' h (large size w e) = large size w e
 
 -- ## What a loop keeps
 
--- From bit k₀ on the numbers `row` were taken, so many; the next bits are in a word, and where m ones begin in it is marked
-pub record Going (m limit : ℕ) (b : List Bool) (k₀ : ℕ) (row : List ℕ) (bit count left marks : ℕ) : Type 0 where
+-- From bit k₀ on the numbers `row` were taken, so many; the next bits are in a word, and where m ones begin in it is known
+pub record Going (m limit : ℕ) (b : List Bool) (k₀ : ℕ) (row : List ℕ) (bit count left starts : ℕ) : Type 0 where
   pub taken : Taken m limit b k₀ bit row
   pub many : length row ≡ count
   pub window : WindowAt b bit left
-  pub marked : MarksRuns m left marks
+  pub starts-are : RunStarts m left starts
 
-module _ {m limit : ℕ} {b : List Bool} {k₀ : ℕ} {row : List ℕ} {bit count left marks : ℕ} (g : Going m limit b k₀ row bit count left marks) where
+module _ {m limit : ℕ} {b : List Bool} {k₀ : ℕ} {row : List ℕ} {bit count left starts : ℕ} (g : Going m limit b k₀ row bit count left starts) where
   -- the word is filled anew
   pub going-filled : (w : Window) → LoadedWindow m b bit w → Going m limit b k₀ row bit count (w .left) (w .starts)
-  going-filled w a = record { taken = g .taken; many = g .many; window = a .window; marked = a .marked }
+  going-filled w a = record { taken = g .taken; many = g .many; window = a .window; starts-are = a .starts-are }
 
   -- a codeword ends in it, and n was found for its number
-  module _ (o : Order m) (some : 1 ≤ marks) where
+  module _ (o : Order m) (some : 1 ≤ starts) where
     abbrev len : ℕ
-    len = leadingZeros 64 marks
+    len = leadingZeros 64 starts
 
     pub going-zero : 1 ≤ len → getD (wordBits 64 left) (len - 1) false ≡ false
-    going-zero = word-zero (g .window) m marks (omega arith) (g .marked .0) some (g .marked .1)
+    going-zero = word-zero (g .window) m starts (omega arith) (g .starts-are .0) some (g .starts-are .1)
 
     pub going-within : bit + (len + m) ≤ length b
-    going-within = omega (arith, codeword-within (g .window) m marks (omega arith) (g .marked .0) some (g .marked .1), g .window .within)
+    going-within = omega (arith, codeword-within (g .window) m starts (omega arith) (g .starts-are .0) some (g .starts-are .1), g .window .within)
 
     -- the number is not legal
     pub going-large : (most n : ℕ) → ExactIfLegal (bodyNumber m left len) n → isNumber limit n ≡ false → limit ≤ maxNumber
@@ -185,8 +185,8 @@ module _ {m limit : ℕ} {b : List Bool} {k₀ : ℕ} {row : List ℕ} {bit coun
           | yes h ↦ omega (arith, is .0 h, illegal-above limit n (omega (arith, is .0 h, first-pos m len)) bad)
           | no h ↦ omega arith
         ] in
-        large (len + m) (word-coded (g .window) m marks (omega arith) (g .marked .0) some (g .marked .1))
-        (omega (arith, word-number (g .window) m marks (omega arith) (g .marked .0) some (g .marked .1)))
+        large (len + m) (word-coded (g .window) m starts (omega arith) (g .starts-are .0) some (g .starts-are .1))
+        (omega (arith, word-number (g .window) m starts (omega arith) (g .starts-are .0) some (g .starts-are .1)))
 
     -- or it is
     module _ (n : ℕ) (is : ExactIfLegal (bodyNumber m left len) n) (legal : isNumber limit n ≡ true) (top : limit ≤ maxNumber) where
@@ -202,19 +202,19 @@ module _ {m limit : ℕ} {b : List Bool} {k₀ : ℕ} {row : List ℕ} {bit coun
       pub going-short : len + m ≤ 47
       going-short = lookup.first-within m o len (same .1)
 
-      pub going-more : Going m limit b k₀ (row ++ (n ∷ [])) (bit + (len + m)) (count + 1) (left * 2 ^ (len + m) % 2 ^ 64) (marks * 2 ^ (len + m) % 2 ^ 64)
+      pub going-more : Going m limit b k₀ (row ++ (n ∷ [])) (bit + (len + m)) (count + 1) (left * 2 ^ (len + m) % 2 ^ 64) (starts * 2 ^ (len + m) % 2 ^ 64)
       going-more =
           let pos : 1 ≤ m = omega arith in
           let t : ℕ = len + m in
           let fits : t ≤ 64 = omega (arith, going-short) in
           record {
             taken =
-                taken-more m limit b k₀ bit row t n pos (g .taken) going-within (word-coded (g .window) m marks pos (g .marked .0) some (g .marked .1))
-                (same .0 ∙ sym (word-number (g .window) m marks pos (g .marked .0) some (g .marked .1))) legal;
+                taken-more m limit b k₀ bit row t n pos (g .taken) going-within (word-coded (g .window) m starts pos (g .starts-are .0) some (g .starts-are .1))
+                (same .0 ∙ sym (word-number (g .window) m starts pos (g .starts-are .0) some (g .starts-are .1))) legal;
             many = omega (arith, g .many, length-append row (n ∷ []));
-            window = window-up (g .window) t (codeword-within (g .window) m marks pos (g .marked .0) some (g .marked .1));
-            marked = (
-              words-up 64 marks t fits ∙ ap (up t) (g .marked .0) ∙ sym (starts-up m t (wordBits 64 left) pos)
+            window = window-up (g .window) t (codeword-within (g .window) m starts pos (g .starts-are .0) some (g .starts-are .1));
+            starts-are = (
+              words-up 64 starts t fits ∙ ap (up t) (g .starts-are .0) ∙ sym (starts-up m t (wordBits 64 left) pos)
                   ∙ ap (runStarts m) (sym (words-up 64 left t fits)),
               omega arith,
             );

@@ -102,7 +102,7 @@ pub fn count_in_span(sum: u64, from: usize, to: usize, place: usize) -> u64
     if place < to { sum } else { 0 }
 }
 
-// Where a place begins, by the bit after so many numbers, as long as they are not more than stand before the place, and else by what it was.
+// The bit where `place` begins: `bit`, while no more than `place` numbers are taken; later what it was.
 pub fn start_of_place(start: usize, place: usize, count: usize, bit: usize) -> usize
     ensures { λ r. ⌜ (count ≤ place → r ≡ bit) × (place < count → r ≡ start) ⌝ }
 {

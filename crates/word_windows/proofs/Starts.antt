@@ -1,4 +1,4 @@
--- Where m ones in a row begin in a word: shifts, two marks joined, and the first mark.
+-- Where m ones in a row begin in a word: shifts, run starts joined, and the first of them.
 use mathlib.Core.Path.{_≡_, refl, sym, ap, ap₂, _∙_}
 use mathlib.Core.Bool.{Bool, true, false, _&&_}
 use mathlib.Core.List.{List, [], _∷_, _++_}
@@ -65,7 +65,7 @@ lead-length [] = omega arith
 lead-length (false ∷ b) = omega arith
 lead-length (true ∷ b) = omega (arith, lead-length b)
 
--- ## Where runs of ones start: marks
+-- ## Run starts
 
 pub starts-length : (m : ℕ) (b : List Bool) → length (runStarts m b) ≡ length b
 unfolding runStarts
@@ -78,7 +78,7 @@ starts-at m [] i h = sym (ap (λ (l : List Bool). leb m (leadingOnes l)) (drop-n
 starts-at m (a ∷ b) zero h = refl
 starts-at m (a ∷ b) (suc i) h = starts-at m b i h
 
--- without a mark there are no m ones in a row
+-- without a run start there are no m ones in a row
 pub starts-runs : (m : ℕ) (b : List Bool) → ((i : ℕ) → getD (runStarts m b) i false ≡ false) → runs m b ≡ 0
 unfolding runStarts runs
 starts-runs m [] none = refl
@@ -104,12 +104,12 @@ starts-zeros m [] (suc t) h = ap₂ (λ (a : Bool) (l : List Bool). a ∷ l) (lt
 starts-zeros m (a ∷ b) t h =
     ap₂ (λ (k : ℕ) (l : List Bool). leb m k ∷ l) (lead-zeros (a ∷ b) t) (starts-zeros m b t h)
 
--- no marks in nothing
+-- no run starts in zeros
 pub starts-none : (m n : ℕ) → 1 ≤ m → wordBits n 0 ≡ runStarts m (wordBits n 0)
 unfolding runStarts
 starts-none m n h = rw (words-zero n) (sym (starts-zeros m [] n h))
 
--- marks move with the bits
+-- run starts move with the bits
 pub starts-up : (m t : ℕ) (b : List Bool) → 1 ≤ m → runStarts m (up t b) ≡ up t (runStarts m b)
 starts-up m t b h = starts-zeros m (drop t b) t h ∙ ap (λ (l : List Bool). l ++ replicate t false) (starts-drop m t b)
 
@@ -151,26 +151,26 @@ run-starts-join n j k x b l e p h w =
         (sym (words-at n z i g) ∙ ap (λ (l : List Bool). getD l i false) (words-up n x k w ∙ ap (up k) e) ∙ moved i)
         ∙ sym (starts-join j k (drop i b) h) ∙ sym (starts-at (j + k) b i (omega arith))
 
--- ## The first mark
+-- ## The first run start
 
 -- the first one of a word
 module _ (n x : ℕ) (pos : 1 ≤ x) (low : x < 2 ^ n) where
   top : (j : ℕ) × (leadingZeros n x + suc j ≡ n) × (2 ^ j ≤ x) × (x < 2 ^ suc j)
   top = leading-top n x pos low
 
-  pub mark-within : leadingZeros n x < n
-  mark-within = omega (arith, top .1)
+  pub first-start-within : leadingZeros n x < n
+  first-start-within = omega (arith, top .1)
 
-  pub mark-one : getD (wordBits n x) (leadingZeros n x) false ≡ true
+  pub first-start : getD (wordBits n x) (leadingZeros n x) false ≡ true
   unfolding bitOf
-  mark-one =
+  first-start =
       let e : n - 1 - leadingZeros n x ≡ top .0 = omega (arith, top .1) in
       let one : x / 2 ^ top .0 ≡ 1 = div-eq-of-lt-le {k = 1} (2 ^ top .0) (omega (arith, top .2)) (omega (arith, top .3, two-pow-succ (top .0))) in
-      words-at n x (leadingZeros n x) mark-within ∙ ap (bitOf x) e ∙ ap (λ (d : ℕ). eqb (d % 2) 1) one
+      words-at n x (leadingZeros n x) first-start-within ∙ ap (bitOf x) e ∙ ap (λ (d : ℕ). eqb (d % 2) 1) one
 
-  pub mark-none : (i : ℕ) → i < leadingZeros n x → getD (wordBits n x) i false ≡ false
+  pub no-start-before : (i : ℕ) → i < leadingZeros n x → getD (wordBits n x) i false ≡ false
   unfolding bitOf
-  mark-none i h =
+  no-start-before i h =
       let k : ℕ = n - 1 - i - suc (top .0) in
       let e : suc (top .0) + k ≡ n - 1 - i = omega (arith, top .1) in
       words-at n x i (omega (arith, top .1)) ∙ ap (bitOf x) (sym e) ∙ ap (λ (d : ℕ). eqb (d % 2) 1) (none (suc (top .0)) k (top .3))

@@ -25,8 +25,8 @@ runStarts m [] = []
 runStarts m (a ∷ b) = leb m (leadingOnes (a ∷ b)) ∷ runStarts m b
 
 -- The word r has a one at each place of the word w where m ones in a row begin
-abbrev pub MarksRuns : ℕ → ℕ → ℕ → Type 0
-MarksRuns m w r = (wordBits 64 r ≡ runStarts m (wordBits 64 w)) × (r < 2 ^ 64)
+abbrev pub RunStarts : ℕ → ℕ → ℕ → Type 0
+RunStarts m w r = (wordBits 64 r ≡ runStarts m (wordBits 64 w)) × (r < 2 ^ 64)
 
 -- The word w has the bits of b from bit k on, some of them, and then zeros
 pub record WindowAt (b : List Bool) (k w : ℕ) : Type 0 where
@@ -40,4 +40,4 @@ pub record WindowAt (b : List Bool) (k w : ℕ) : Type 0 where
 pub record LoadedWindow (m : ℕ) (b : List Bool) (k : ℕ) (r : Window) : Type 0 where
   pub window : WindowAt b k (r .left)
   pub whole : 8 * (k / 8) + 64 ≤ length b → window .some ≡ 64 - k % 8
-  pub marked : MarksRuns m (r .left) (r .starts)
+  pub starts-are : RunStarts m (r .left) (r .starts)

@@ -7,7 +7,7 @@ ghost use Rattle.calls.specs.Limits.{Order, maxNumber};
 ghost use Rattle.fibonacci.specs.Leaves.{Firsts};
 ghost use Rattle.digit_tables.specs.Leaves.{byteValues};
 ghost use Rattle.digit_values.specs.Leaves.{IsBody};
-ghost use Rattle.word_windows.specs.Leaves.{bodyNumber, ExactIfLegal, MarksRuns, LoadedWindow};
+ghost use Rattle.word_windows.specs.Leaves.{bodyNumber, ExactIfLegal, RunStarts, LoadedWindow};
 
 // The next bits of an encoding, the first on top, and where in them as many ones as the order begin.
 pub struct Window {
@@ -15,11 +15,11 @@ pub struct Window {
     pub starts: u64,
 }
 
-// Where `order` ones in a row begin in a word: a one at each such place. Ones that begin here and again no further on than they reach are one longer run.
-// Requires: an order in use, which `window_at` requires.
+// Where `order` ones in a row begin in a word: a one at each such place. j ones that begin here and again k ≤ j places on are j + k ones. Requires: an order in
+// use, which `window_at` requires.
 fn run_starts(w: u64, order: usize) -> u64
     requires { ⌜ Order order ⌝ }
-    ensures { λ r. ⌜ MarksRuns order w r ⌝ }
+    ensures { λ r. ⌜ RunStarts order w r ⌝ }
 {
     let two = w & w << 1;
     if order == 2 {

@@ -16,8 +16,8 @@ heads-requires c κs = search needs
 tails-requires : tie.Need-tails-requires
 tails-requires c κs = search needs
 
-positions-requires : tie.Need-positions-requires
-positions-requires c κs = search needs
+positions-from-minus-two-requires : tie.Need-positions-from-minus-two-requires
+positions-from-minus-two-requires c κs = search needs
 
 first-numbers-requires : tie.Need-first-numbers-requires
 first-numbers-requires c κs = search needs
@@ -37,7 +37,7 @@ scan-into-spec =
     returns
     heads-requires
     tails-requires
-    positions-requires
+    positions-from-minus-two-requires
     first-numbers-requires
     walk-requires
     returns-2)

@@ -55,7 +55,7 @@ add-end c = omega (arith, c .before .before .before .before .loop .inv .2 .clamp
 moved-requires : tie.Need-moved-requires Inv-loop μ-loop
 moved-requires c κs =
     let few = c .before .look-up .ensures .1 in
-    (c .before .before .before .before .before .before .pre .0 .positions-are, omega (arith, c .before .before .before .before .loop .inv .2 .clamped), few .coef0, few .coef1, few .coef2)
+    (c .before .before .before .before .before .before .pre .0 .positions-are, omega (arith, c .before .before .before .before .loop .inv .2 .clamped), few .coef0, omega (arith, few .coef1), few .coef2)
 
 add-sum : tie.Need-add-sum Inv-loop μ-loop
 add-sum c =

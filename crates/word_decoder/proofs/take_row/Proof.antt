@@ -95,7 +95,7 @@ loop-holds c =
         taken = taken-none _ _ _ _ (omega arith);
         many = refl;
         window = e .window;
-        marked = e .marked;
+        starts-are = e .starts-are;
       },
       refl,
       omega arith,

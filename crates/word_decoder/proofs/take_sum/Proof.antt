@@ -97,7 +97,7 @@ loop-holds c =
         taken = taken-none _ _ _ _ (omega (arith, unpack-length (z .args .s .now), z .pre .5));
         many = refl;
         window = e .window;
-        marked = e .marked;
+        starts-are = e .starts-are;
       },
       refl,
       omega arith,

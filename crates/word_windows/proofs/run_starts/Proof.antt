@@ -5,19 +5,19 @@ use lib.Bits.{bitAnd, and-le-l, and-mask}
 use borrow.Author.Needs.{needs}
 use Rattle.bits.specs.Bits.{wordBits}
 use Rattle.bits.proofs.Words.{words-length}
-use Rattle.word_windows.specs.Leaves.{runStarts, MarksRuns}
+use Rattle.word_windows.specs.Leaves.{runStarts, RunStarts}
 use Rattle.word_windows.proofs.Starts.{starts-one, run-starts-join}
 use Rattle.word_windows.proofs.run_starts.Statement.{statement}
 use Rattle.word_windows.proofs.run_starts.Tie as tie
 
 -- one step: j ones become j + k
-joined : (w j k m x : ℕ) → MarksRuns j w x → 1 ≤ j → k ≤ j → k ≤ 64 → j + k ≡ m → MarksRuns m w (bitAnd x (x * 2 ^ k % 2 ^ 64))
+joined : (w j k m x : ℕ) → RunStarts j w x → 1 ≤ j → k ≤ j → k ≤ 64 → j + k ≡ m → RunStarts m w (bitAnd x (x * 2 ^ k % 2 ^ 64))
 joined w j k m x e p h l is = (
   run-starts-join 64 j k x (wordBits 64 w) (words-length 64 w) (e .0) p h l ∙ ap (λ (i : ℕ). runStarts i (wordBits 64 w)) is,
   omega (arith, and-le-l x (x * 2 ^ k % 2 ^ 64), e .1),
 )
 
-pair : (w : ℕ) → w < 2 ^ 64 → MarksRuns 2 w (bitAnd w (w * 2 ^ 1 % 2 ^ 64))
+pair : (w : ℕ) → w < 2 ^ 64 → RunStarts 2 w (bitAnd w (w * 2 ^ 1 % 2 ^ 64))
 pair w h = joined w 1 1 2 w (sym (starts-one (wordBits 64 w)), h) (omega arith) (omega arith) (omega arith) (omega arith)
 
 returns : tie.Need-returns
