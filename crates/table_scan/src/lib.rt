@@ -59,8 +59,8 @@ fn fault(place: usize) -> Refusal
 }
 
 // The scan after the check of the length, byte by byte. Pending are `len` bits up to a zero, whose value is `val`, or at least so many where `len` is 37, and
-// then ones; `state` is 256 times their count, where the rows for the next byte begin. Requires: the tables, an encoding that is not too long, and a limit of at
-// most 4,294,967,295, which the table decoder takes, checks and shows.
+// then ones; `state` is 256 times their count, where the rows for the next byte begin. Requires: the tables, an encoding that is not too long, and a limit of
+// at most 4,294,967,295, which the table decoder takes, checks and shows.
 pub fn walk(
     heads: &[u32; 768],
     tails: &[u32; 768],
