@@ -1,16 +1,24 @@
 -- Columns: how long they are, that they give the number back, and how they are put and read.
-use mathlib.Core.Path.{_≡_, refl, ap, _∙_}
+use mathlib.Core.Path.{_≡_, refl, sym, ap, _∙_}
 use mathlib.Core.List.{List, [], _∷_, _++_, foldl, foldl-append}
 use Prim.Native.Nat.{ℕ, zero, suc, _+_, _-_, _*_, _/_, _%_, _^_, _≤_, _<_}
 use native.Mathlib.Omega.{arith}
 use native.Mathlib.Numerals.{add-one}
-use native.Mathlib.Nat.{pow-succ', pow-le-pow-right}
+use native.Mathlib.Nat.{add-zero, pow-succ', pow-le-pow-right}
 use native.Mathlib.Decide.{decLe}
 use lib.ListN.{length, getD, drop, set, length-append, drop-of-length-le}
-use lib.Seq.{sets, drop-cons}
+use lib.Seq.{sets, set-comm, drop-cons}
 use borrow.Author.Tests.{ne-eqb}
-use Rattle.lists.proofs.Lists.{sets-last}
 use Rattle.columns.specs.Columns.{digit, leader, leading, column, decimal}
+
+-- the last element is put first, as the columns of a number are
+sets-last : {A : Type 0} (l : List A) (i : ℕ) (x : List A) (a : A) → sets l i (x ++ (a ∷ [])) ≡ sets (set l (i + length x) a) i x
+sets-last l i [] a = rw add-zero
+sets-last {A} l i (b ∷ x) a =
+    let e : i + suc (length x) ≡ suc i + length x = omega arith in
+    sets-last (set l i b) (suc i) x a
+    ∙ ap (λ (k : List A). sets k (suc i) x)
+    (set-comm l i (suc i + length x) b a (λ (q : i ≡ suc i + length x). omega arith) ∙ ap (λ (k : ℕ). set (set l k a) i b) (sym e))
 
 -- ## Lengths
 

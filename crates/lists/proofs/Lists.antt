@@ -7,7 +7,7 @@ use native.Mathlib.Omega.{arith}
 use native.Mathlib.Numerals.{add-one}
 use native.Mathlib.Nat.{add-zero, zero-add, suc-add}
 use lib.ListN.{length, getD, take, drop, set, replicate, length-append}
-use lib.Seq.{sets, set-comm, take-nil, take-take, take-suc, take-all, drop-at, paste-suc}
+use lib.Seq.{sets, take-nil, take-take, take-suc, take-all, drop-at, paste-suc}
 use Rattle.lists.specs.Lists.{valuesFrom}
 
 module _ {A : Type 0} where
@@ -70,15 +70,6 @@ module _ {A : Type 0} where
   -- what is put after what was put
   pub sets-then : (l : List A) {l₁ l₂ : List A} (i k : ℕ) (x y : List A) → l₁ ≡ sets l i x → l₂ ≡ sets l₁ k y → k ≡ i + length x → l₂ ≡ sets l i (x ++ y)
   sets-then l i k x y e f h = f ∙ ap₂ (λ (o : List A) (j : ℕ). sets o j y) e h ∙ sym (sets-append l i x y)
-
-  -- the last element is put first
-  pub sets-last : (l : List A) (i : ℕ) (x : List A) (a : A) → sets l i (x ++ (a ∷ [])) ≡ sets (set l (i + length x) a) i x
-  sets-last l i [] a = rw add-zero
-  sets-last l i (b ∷ x) a =
-      let e : i + suc (length x) ≡ suc i + length x = omega arith in
-      sets-last (set l i b) (suc i) x a
-      ∙ ap (λ (k : List A). sets k (suc i) x)
-      (set-comm l i (suc i + length x) b a (λ (q : i ≡ suc i + length x). omega arith) ∙ ap (λ (k : ℕ). set (set l k a) i b) (sym e))
 
   -- what is dropped of a beginning
   pub drop-take : (t n : ℕ) (l : List A) → drop t (take n l) ≡ take (n - t) (drop t l)
