@@ -9,6 +9,7 @@ use lib.ListN.{length, take, replicate, length-append, length-replicate}
 use lib.Seq.{take-all, take-append-seam}
 use borrow.Author.Tests.{lt-ltb}
 use Rattle.lists.specs.Lists.{sum}
+use Rattle.lists.proofs.Each.{all-same}
 use Rattle.lists.proofs.Sums.{sum-same}
 use Rattle.bits.specs.Bits.{bitOf, wordBits, unpack, wordOf, bytesOf, byteCount, pack, count}
 use Rattle.bits.proofs.Packing.{pack-length}
@@ -35,13 +36,9 @@ use Rattle.demands.specs.Sentences.{onesRow, Largest, largestRow, Senten
 
 -- ## 4,096 ones
 
-legal-same : (k n : ℕ) → isNumber maxNumber n ≡ true → Legal maxNumber (replicate k n)
-legal-same zero n e = tt
-legal-same (suc k) n e = (e, legal-same k n e)
-
 ones-legal : (k : ℕ) → Legal maxNumber (onesRow k)
 unfolding onesRow isNumber
-ones-legal k = legal-same k 1 refl
+ones-legal k = all-same (λ n. isNumber maxNumber n ≡ true) k 1 refl
 
 ones-length : (k : ℕ) → length (onesRow k) ≡ k
 unfolding onesRow
@@ -110,7 +107,7 @@ largest-number = record { written = refl; read-back = refl; next = refl }
 decode-largest : (m : ℕ) → Order m → decode (fibonacci m) maxNumber (encoding m largestRow) ≡ accepted largestRow
 unfolding largestRow
 decode-largest m o =
-    decode-encoding m largestRow o (omega (arith, length-replicate maxCount maxNumber)) (legal-same maxCount maxNumber (is-number maxNumber maxNumber (omega arith) (omega arith)))
+    decode-encoding m largestRow o (omega (arith, length-replicate maxCount maxNumber)) (all-same (λ n. isNumber maxNumber n ≡ true) maxCount maxNumber (is-number maxNumber maxNumber (omega arith) (omega arith)))
 
 largest-total : (m : ℕ) → Order m → total m (encoding m largestRow) 0 maxCount ≡ accepted 17592186040320
 unfolding total largestRow

@@ -1,5 +1,7 @@
 -- What holds of each element of a list.
 use mathlib.Core.List.{List, [], _∷_, _++_}
+use Prim.Native.Nat.{ℕ, zero, suc}
+use lib.ListN.{replicate}
 use Rattle.lists.specs.Lists.{All}
 
 module _ {A : Type 0} where
@@ -10,3 +12,7 @@ module _ {A : Type 0} where
   pub all-append : (P : A → Type 0) (l r : List A) → All P l → All P r → All P (l ++ r)
   all-append P [] r a c = c
   all-append P (x ∷ l) r a c = (a .0, all-append P l r (a .1) c)
+
+  pub all-same : (P : A → Type 0) (k : ℕ) (x : A) → P x → All P (replicate k x)
+  all-same P zero x p = tt
+  all-same P (suc k) x p = (p, all-same P k x p)
