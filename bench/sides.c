@@ -5,6 +5,13 @@
 #include <string.h>
 
 #define REPEATS 1000
+#define SHARED 1
+
+/* The total of a repeated row, in which each repeat shares a part with the next. */
+static uint64_t joined(uint64_t total)
+{
+    return REPEATS * total - (REPEATS - 1) * SHARED;
+}
 
 /* Where the results go: the answer of a proved operation, one number, numbers, bytes. */
 static uint64_t answer[5], result;
@@ -24,7 +31,7 @@ static void run_read(struct input *in) { probe_read(in->order, in->encoding, in-
 static void run_table_read(struct input *in) { probe_table_read(in->encoding, in->used, numbers, 4096, answer, 5); }
 static void run_table_read_bytes(struct input *in) { probe_table_read_bytes(in->encoding, in->used, bytes, 4 * 4096, answer, 5); }
 static void run_total(struct input *in) { probe_total(in->order, in->encoding, in->used, 0, in->count, answer, 5); }
-static void run_repeated(struct input *in) { probe_repeated_total(in->order, in->encoding, in->used, REPEATS, answer, 5); }
+static void run_repeated(struct input *in) { probe_repeated_total(in->order, in->encoding, in->used, REPEATS, SHARED, answer, 5); }
 static void run_write(struct input *in) { probe_write(in->order, in->row, in->count, bytes, sizeof bytes, answer, 5); }
 static void run_build(struct input *in) { probe_build(in->order, ALPHABET, in->row, in->count, bytes, sizeof bytes, answer, 5); }
 static void run_listing(struct input *in) { probe_listing((const uint8_t *)in->text, 11 * in->lines, bytes, sizeof bytes, answer, 5); }
@@ -62,7 +69,7 @@ static void run_select(struct input *in)
 static void plain_run_read(struct input *in) { result = plain_read(in->order, in->encoding, in->used, numbers); }
 static void plain_run_table_read(struct input *in) { result = plain_table_read(in->encoding, in->used, numbers); }
 static void plain_run_total(struct input *in) { result = plain_total(in->order, in->encoding, in->used, 0, in->count); }
-static void plain_run_repeated(struct input *in) { result = REPEATS * plain_total(in->order, in->encoding, in->used, 0, in->count); }
+static void plain_run_repeated(struct input *in) { result = joined(plain_total(in->order, in->encoding, in->used, 0, in->count)); }
 static void plain_run_write(struct input *in) { result = plain_write(in->order, in->row, in->count, bytes); }
 static void plain_run_build(struct input *in) { result = plain_build(in->order, ALPHABET, in->row, in->count, bytes); }
 static void plain_run_listing(struct input *in) { result = plain_listing(in->text, in->lines, (char *)bytes); }
@@ -115,7 +122,7 @@ static int row_of(const struct input *in)
 static int right_row(struct input *in) { return proved(in->count) && row_of(in); }
 static int right_row_bytes(struct input *in) { return proved(in->count) && memcmp(bytes, in->row, 4 * in->count) == 0; }
 static int right_total(struct input *in) { return proved(sum_of(in)); }
-static int right_repeated(struct input *in) { return proved(REPEATS * sum_of(in)); }
+static int right_repeated(struct input *in) { return proved(joined(sum_of(in))); }
 static int right_encoding(struct input *in) { return proved(in->used) && memcmp(bytes, in->encoding, in->used) == 0; }
 static int right_longer(struct input *in) { return proved(in->used) && memcmp(in->shorter, in->encoding, in->used) == 0; }
 static int right_index(struct input *in) { return proved(in->index_bits) && memcmp(bytes, in->index, (in->index_bits + 7) / 8) == 0; }
@@ -132,7 +139,7 @@ static int right_text(struct input *in)
 
 static int plain_right_row(struct input *in) { return result == in->count && row_of(in); }
 static int plain_right_total(struct input *in) { return result == sum_of(in); }
-static int plain_right_repeated(struct input *in) { return result == REPEATS * sum_of(in); }
+static int plain_right_repeated(struct input *in) { return result == joined(sum_of(in)); }
 static int plain_right_encoding(struct input *in) { return result == in->used && memcmp(bytes, in->encoding, in->used) == 0; }
 static int plain_right_longer(struct input *in) { return result == in->used && memcmp(in->shorter, in->encoding, in->used) == 0; }
 static int plain_right_index(struct input *in) { return result == in->index_bits; }

@@ -1,5 +1,5 @@
-//! A model of the library, written from paper 01 alone. It shares no table and no way of working with the proved code: it is slow and plain, keeps
-//! bits in lists and numbers in 128 bits, and takes each sentence of the paper as it stands. Programs beside the proofs are compared with it.
+//! A model of the library, written from papers 01 and 02 alone. It shares no table and no way of working with the proved code: it is slow and plain, keeps
+//! bits in lists and numbers in 128 bits, and takes each sentence of the papers as it stands. Programs beside the proofs are compared with it.
 
 // each program that uses the model uses a part of it
 #![allow(dead_code)]
@@ -326,6 +326,10 @@ pub fn append(order: u64, buffer: &mut [u8], used: u64, n: u32) -> Answer<(u64, 
     Answer::yes((bytes.len() as u64, row.len() as u64))
 }
 
+pub fn sum(row: &[u32]) -> u64 {
+    row.iter().map(|n| *n as u64).sum()
+}
+
 /// The total of the numbers from place a up to but without place b.
 pub fn total(order: u64, bytes: &[u8], a: u64, b: u64) -> Answer<u64> {
     let row = match row_of(order, bytes) {
@@ -335,11 +339,11 @@ pub fn total(order: u64, bytes: &[u8], a: u64, b: u64) -> Answer<u64> {
     if a > b || b > row.len() as u64 {
         return Answer::no(refusal(8));
     }
-    Answer::yes(row[a as usize..b as usize].iter().map(|n| *n as u64).sum())
+    Answer::yes(sum(&row[a as usize..b as usize]))
 }
 
-/// The total of a row repeated r times, paper 01's width of the runner.
-pub fn repeated_total(order: u64, bytes: &[u8], r: u64) -> Answer<u64> {
+/// The width of a runner: the total of a row repeated r times, where each repeat has the shared knots in common with the next (paper 02's R-1).
+pub fn repeated_total(order: u64, bytes: &[u8], r: u64, shared: u64) -> Answer<u64> {
     let row = match row_of(order, bytes) {
         Ok(row) => row,
         Err(refusal) => return Answer::no(refusal),
@@ -347,8 +351,10 @@ pub fn repeated_total(order: u64, bytes: &[u8], r: u64) -> Answer<u64> {
     if r < 1 || r > 10_000 {
         return Answer::no(refusal(14));
     }
-    let sum: u64 = row.iter().map(|n| *n as u64).sum();
-    Answer::yes(r * sum)
+    if shared > sum(&row) {
+        return Answer::no(refusal(15));
+    }
+    Answer::yes(r * sum(&row) - (r - 1) * shared)
 }
 
 // ---- The row index ----

@@ -497,7 +497,7 @@ const PAPER_01: [(&str, &str); 24] = [
     ("room 6 write 2 4294967295", "bytes 6, bits 47;"),
     ("room 1 read 2 A4 88 08 A2 A1 16", "NO 7, place 0:"),
     ("table-value 1 4 B7", "value 267;"),
-    ("repeated-total 3 11 6D B8", "total 6600;"),
+    ("repeated-total 3 11 0 6D B8", "total 6600;"),
 ];
 
 // What decides where a sentence can be read in two ways
@@ -530,7 +530,7 @@ const READ_AS: [(&str, &str); 49] = [
     ("total 2 6 6 3E DE", "NO 8:"),
     ("total 2 3 2 3E DE", "NO 8:"),
     ("total 2 9 0 E0", "NO 6:"),
-    ("repeated-total 2 1", "total 0;"),
+    ("repeated-total 2 1 0", "total 0;"),
     ("room 1 build 7 0 1", "NO 1:"),
     ("room 3 build 2 4 1 5 0", "NO 10, place 1:"),
     ("extract 2 4 5 0 6B", "NO 11:"),
@@ -551,6 +551,21 @@ const READ_AS: [(&str, &str); 49] = [
     ("room 8 table-read-bytes E6 0B 2C 14 8D C0", "NO 7, place 1:"),
     ("table-row 2 BF", "inside 2 1;"),
     ("table-row 2 F7", "inside 1 2;"),
+];
+
+// Paper 02's R-1 on the row of P2, whose total is 11, on an empty row, and on eleven repeats of 600
+const R_1: [(&str, &str); 11] = [
+    ("repeated-total 2 3 2 3E DE", "total 29;"),
+    ("repeated-total 2 3 11 3E DE", "total 11;"),
+    ("repeated-total 2 3 12 3E DE", "NO 15:"),
+    ("repeated-total 2 0 99 3E DE", "NO 14:"),
+    ("repeated-total 2 3 0 3E DE", "total 33;"),
+    ("repeated-total 2 1 11 3E DE", "total 11;"),
+    ("repeated-total 2 1 12 3E DE", "NO 15:"),
+    ("repeated-total 2 3 99 E0", "NO 6:"),
+    ("repeated-total 2 3 0", "total 0;"),
+    ("repeated-total 2 3 1", "NO 15:"),
+    ("repeated-total 3 11 20 6D B8", "total 6400;"),
 ];
 
 // Paper 01's listing
@@ -588,7 +603,7 @@ fn listings(s: &mut Sources) {
 }
 
 fn papers(s: &mut Sources) {
-    for (request, part) in PAPER_01.iter().chain(&READ_AS) {
+    for (request, part) in PAPER_01.iter().chain(&READ_AS).chain(&R_1) {
         s.says(request, part);
     }
     for (alphabet, visits) in [(3, &[1, 2, 2][..]), (5, &[2, 2, 3, 2, 3])] {

@@ -42,7 +42,7 @@ const REQUESTS: [(&str, Request); 16] = [
     ("table-read-bytes BYTES", table_read_bytes),
     ("append ORDER NUMBER BYTES", append),
     ("total ORDER FROM TO BYTES", total),
-    ("repeated-total ORDER REPEATS BYTES", repeated_total),
+    ("repeated-total ORDER REPEATS SHARED BYTES", repeated_total),
     ("build ORDER ALPHABET ROW", build),
     ("extract ORDER ALPHABET LENGTH PLACE INDEX", extract),
     ("rank ORDER ALPHABET LENGTH NUMBER PLACE INDEX", rank),
@@ -206,6 +206,7 @@ fn reason(number: u64) -> &'static str {
         11 => "the bytes are no index of so many numbers",
         12 => "the number stands in the row fewer times",
         14 => "the repeats are not 1 to 10000",
+        15 => "more is shared than the row's total",
         _ => panic!("{number} is no refusal"),
     }
 }
@@ -310,8 +311,8 @@ fn total(mut words: Words, before: Before) -> Option<String> {
 
 fn repeated_total(mut words: Words, before: Before) -> Option<String> {
     before.nothing()?;
-    let (order, repeats) = (words.number()?, words.number()?);
-    let a = model::repeated_total(order, &words.bytes()?, repeats);
+    let (order, repeats, shared) = (words.number()?, words.number()?, words.number()?);
+    let a = model::repeated_total(order, &words.bytes()?, repeats, shared);
     Some(plain(&a, |total| format!("total {total}")))
 }
 

@@ -16,7 +16,7 @@ extern "C" {
     fn probe_table_read_bytes(s: *const u8, s_len: usize, out: *mut u8, out_len: usize, answer: *mut u64, answer_len: usize);
     fn probe_append(order: usize, buf: *mut u8, buf_len: usize, used: usize, n: u32, answer: *mut u64, answer_len: usize);
     fn probe_total(order: usize, s: *const u8, s_len: usize, a: usize, b: usize, answer: *mut u64, answer_len: usize);
-    fn probe_repeated_total(order: usize, s: *const u8, s_len: usize, repeats: u64, answer: *mut u64, answer_len: usize);
+    fn probe_repeated_total(order: usize, s: *const u8, s_len: usize, repeats: u64, shared: u64, answer: *mut u64, answer_len: usize);
     fn probe_build(order: usize, alphabet: u32, row: *const u32, row_len: usize, out: *mut u8, out_len: usize, answer: *mut u64, answer_len: usize);
     fn probe_extract(order: usize, alphabet: u32, len: usize, index: *const u8, index_len: usize, i: usize, answer: *mut u64, answer_len: usize);
     fn probe_rank(order: usize, alphabet: u32, len: usize, index: *const u8, index_len: usize, n: u32, i: usize, answer: *mut u64, answer_len: usize);
@@ -248,8 +248,8 @@ impl Border {
         self.call(s, &[], |s, ss, _, _, a, n| unsafe { probe_total(order, s, ss, from, to, a, n) })
     }
 
-    pub fn repeated_total(&mut self, order: usize, s: &[u8], repeats: u64) -> Called<u8> {
-        self.call(s, &[], |s, ss, _, _, a, n| unsafe { probe_repeated_total(order, s, ss, repeats, a, n) })
+    pub fn repeated_total(&mut self, order: usize, s: &[u8], repeats: u64, shared: u64) -> Called<u8> {
+        self.call(s, &[], |s, ss, _, _, a, n| unsafe { probe_repeated_total(order, s, ss, repeats, shared, a, n) })
     }
 
     pub fn build(&mut self, order: usize, alphabet: u32, row: &[u32], out: &[u8]) -> Called<u8> {

@@ -74,11 +74,19 @@ impl Codec<'_> {
         self.ledger.compare("total", &a.number.to_string(), &called, one(&a), &[], arguments);
     }
 
-    pub fn repeated_total(&mut self, order: usize, s: &[u8], repeats: u64) {
-        let called = self.border.repeated_total(order, s, repeats);
-        let a = model::repeated_total(order as u64, s, repeats);
-        let arguments = || format!("repeated_total(order {order}, s {}, repeats {repeats})", bytes(s));
+    pub fn repeated_total(&mut self, order: usize, s: &[u8], repeats: u64, shared: u64) {
+        let called = self.border.repeated_total(order, s, repeats, shared);
+        let a = model::repeated_total(order as u64, s, repeats, shared);
+        let arguments = || format!("repeated_total(order {order}, s {}, repeats {repeats}, shared {shared})", bytes(s));
         self.ledger.compare("repeated_total", &a.number.to_string(), &called, one(&a), &[], arguments);
+    }
+
+    /// .. with 0 and 1 shared, the row's total and one more, and as much as can be asked for.
+    fn repeated_totals(&mut self, order: usize, s: &[u8], repeats: u64) {
+        let total = model::row_of(order as u64, s).map_or(0, |row| model::sum(&row));
+        for shared in [0, 1, total, total + 1, u64::MAX] {
+            self.repeated_total(order, s, repeats, shared);
+        }
     }
 
     // ---- What the library says twice ----
@@ -139,7 +147,8 @@ impl Codec<'_> {
         let made = 2 + self.random.below(5);
         let s = encodings::encoding(self.random, made);
         let order = if self.random.once_in(8) { self.random.order() } else { made };
-        let count = model::row_of(order as u64, &s).map_or(0, |row| row.len());
+        let row = model::row_of(order as u64, &s).unwrap_or_default();
+        let count = row.len();
         let room = self.random.room(count);
         let out = self.random.numbers(room);
         self.read(order, &s, &out);
@@ -153,7 +162,8 @@ impl Codec<'_> {
         let to = from + self.random.below(count + 1 - from);
         self.total(order, &s, from, to);
         let repeats = self.random.around(10_000) as u64;
-        self.repeated_total(order, &s, repeats);
+        let shared = self.random.around(model::sum(&row) as usize) as u64;
+        self.repeated_total(order, &s, repeats, shared);
         self.append_case(order, s);
     }
 
@@ -204,8 +214,8 @@ impl Codec<'_> {
                 for (from, to) in [(0, ones), (0, ones + 1), (ones, ones), (ones + 1, ones + 1), (ones, ones - 1), (0, usize::MAX), (usize::MAX, usize::MAX)] {
                     self.total(order, &s, from, to);
                 }
-                for repeats in [0, 1, 10_000, 10_001, u64::MAX] {
-                    self.repeated_total(order, &s, repeats);
+                for repeats in [0, 1, 2, 10_000, 10_001, u64::MAX] {
+                    self.repeated_totals(order, &s, repeats);
                 }
                 for n in [0, 1, 2, u32::MAX] {
                     let mut buffer = s.clone();
@@ -238,7 +248,7 @@ impl Codec<'_> {
             self.total(order, &s, from, to);
         }
         for repeats in [10_000, 10_001] {
-            self.repeated_total(order, &s, repeats);
+            self.repeated_totals(order, &s, repeats);
         }
         let most = [&s[..], &[0xA5; 24_064]].concat();
         for n in [0, 1] {
@@ -271,7 +281,8 @@ impl Codec<'_> {
             self.table_read(&s, &vec![9; 4096]);
             self.table_read_bytes(&s, &vec![9; 16_384]);
             self.total(order, &s, 0, 4096);
-            self.repeated_total(order, &s, 10_000);
+            self.repeated_total(order, &s, 10_000, 0);
+            self.repeated_total(order, &s, 10_000, u64::MAX);
             self.append(order, &s, s.len(), 1);
             self.append(order, &s, s.len() + 1, 1);
             self.append(order, &s, 1, 1);

@@ -4,7 +4,7 @@ use std::fmt::Debug;
 
 use crate::border::{Called, Told, CASE, SEED};
 
-/// Each operation, with the answers that paper 01 gives it: every one has to come, and no other may. Those of the listing are told by its text, and 5 by an
+/// Each operation, with the answers that papers 01 and 02 give it: every one has to come, and no other may. Those of the listing are told by its text, and 5 by an
 /// output that the text does not fit.
 const OPERATIONS: [(&str, &[&str]); 12] = [
     ("write", &["0", "1", "4", "3", "5"]),
@@ -13,7 +13,7 @@ const OPERATIONS: [(&str, &[&str]); 12] = [
     ("table_read_bytes", &["0", "2", "4", "7", "6", "5"]),
     ("append", &["0", "1", "2", "4", "7", "6", "3", "4 (full)", "5"]),
     ("total", &["0", "1", "2", "4", "7", "6", "8"]),
-    ("repeated_total", &["0", "1", "2", "4", "7", "6", "14"]),
+    ("repeated_total", &["0", "1", "2", "4", "7", "6", "14", "15"]),
     ("build", &["0", "1", "9", "4", "10", "5"]),
     ("extract", &["0", "1", "9", "4", "11", "8"]),
     ("rank", &["0", "1", "9", "4", "11", "10", "8"]),

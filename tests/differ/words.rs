@@ -105,7 +105,9 @@ impl Codec<'_> {
             self.total(order, s, from, to);
         }
         let repeats = 1 + self.random.below(10_000) as u64;
-        self.repeated_total(order, s, repeats);
+        let total = row.map_or(0, |row| model::sum(&row));
+        let shared = self.random.around(total as usize) as u64;
+        self.repeated_total(order, s, repeats, shared);
         let n = encodings::number(self.random, order);
         self.append(order, &[s, &[0xA5; 8]].concat(), s.len(), n);
     }

@@ -1,4 +1,4 @@
-// What a call answers as five numbers: paper 01's answer number, the place, and three results, which are zeros where there are none. The console and the
+// What a call answers as five numbers: the papers' answer number, the place, and three results, which are zeros where there are none. The console and the
 // probes go by it.
 ghost use mathlib.Core.Path.{_≡_};
 ghost use Rattle.calls.specs.Calls.{accepted, refused, countOutcome};

@@ -25,7 +25,7 @@ pub neither : (a b : Bool) → (a || b) ≡ false → (a ≡ false) × (b ≡ fa
 neither true b e = absurd (true≢false e)
 neither false b e = (refl, e)
 
-within-both : (low high x : ℕ) → within low high x ≡ true → (low ≤ x) × (x ≤ high)
+pub within-both : (low high x : ℕ) → within low high x ≡ true → (low ≤ x) × (x ≤ high)
 within-both low high x e = let p = both (leb low x) (leb x high) e in (leb-true low x (p .0), leb-true x high (p .1))
 
 pub order-is : (m : ℕ) → isOrder m ≡ true → Order m

@@ -1,7 +1,7 @@
--- The refusals' numbers and places (paper 01, "When a call says no"). The place is 0 where the paper names none.
+-- The refusals' numbers and places (paper 01, "When a call says no"; paper 02, "Checks"). The place is 0 where the papers name none.
 use Prim.Native.Nat.{ℕ}
 use Rattle.calls.specs.declared.Refusal.{Refusal}
-use Rattle.calls.specs.declared.Refusal.the-variants.{BadOrder, TooManyBytes, PastBuffer, BadNumber, TooManyNumbers, TooManyCodewords, FullRow, TooMuchInput, NoRoom, BadRest, TooLarge, BadSpan, BadPlace, BadUse, BadAlphabet, OutsideAlphabet, NotAnIndex, TooFewUses, BadLine, BadRepeats}
+use Rattle.calls.specs.declared.Refusal.the-variants.{BadOrder, TooManyBytes, PastBuffer, BadNumber, TooManyNumbers, TooManyCodewords, FullRow, TooMuchInput, NoRoom, BadRest, TooLarge, BadSpan, BadPlace, BadUse, BadAlphabet, OutsideAlphabet, NotAnIndex, TooFewUses, BadLine, BadRepeats, TooMuchShared}
 
 abbrev pub reason : Refusal → ℕ × ℕ
 reason BadOrder = (1, 0)
@@ -24,3 +24,4 @@ reason NotAnIndex = (11, 0)
 reason TooFewUses = (12, 0)
 reason BadLine = (13, 0)
 reason BadRepeats = (14, 0)
+reason TooMuchShared = (15, 0)

@@ -46,6 +46,8 @@ pub enum Refusal {
     BadLine,
     // 14: the repeats are not 1 to 10,000.
     BadRepeats,
+    // 15: more is shared than the row's total.
+    TooMuchShared,
 }
 
 // A refusal as the papers give it: its number, and a place, which is 0 where they name none.
@@ -84,11 +86,12 @@ pub fn reason(r: Refusal) -> Numbered
         Refusal::TooFewUses => with_place(12, 0),
         Refusal::BadLine => with_place(13, 0),
         Refusal::BadRepeats => with_place(14, 0),
+        Refusal::TooMuchShared => with_place(15, 0),
     }
 }
 
-// A refusal in words, by its number. Which is given when, paper 01 says; 13 is the listing program's alone.
-pub const REFUSALS: [u8; 514] = *b"\
+// A refusal in words, by its number. Which is given when, papers 01 and 02 say; 13 is the listing program's alone.
+pub const REFUSALS: [u8; 550] = *b"\
 \n\
 the order is not 2 to 6\n\
 more than 24064 bytes, or more in use than the buffer has\n\
@@ -103,7 +106,8 @@ a number is 0 or above the alphabet\n\
 the bytes are no index of so many numbers\n\
 the number stands in the row fewer times\n\
 a line of the input has another form, or there is none\n\
-the repeats are not 1 to 10000\n";
+the repeats are not 1 to 10000\n\
+more is shared than the row's total\n";
 
 // What a call answers whose one result is a count: of numbers, bits or bytes.
 pub enum CountAnswer {

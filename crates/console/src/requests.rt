@@ -8,14 +8,10 @@ pub fn numbers_of(k: usize) -> usize {
     if k == texts::TABLE_READ || k == texts::TABLE_READ_BYTES || k == texts::HELP_ITSELF {
         return 0;
     }
-    if k == texts::APPEND
-        || k == texts::REPEATED_TOTAL
-        || k == texts::BUILD
-        || k == texts::TABLE_VALUE
-    {
+    if k == texts::APPEND || k == texts::BUILD || k == texts::TABLE_VALUE {
         return 2;
     }
-    if k == texts::TOTAL {
+    if k == texts::TOTAL || k == texts::REPEATED_TOTAL {
         return 3;
     }
     if k == texts::EXTRACT {
@@ -113,7 +109,7 @@ fn total(n: &[u64; 5], s: &[u8]) -> Answer {
 }
 
 fn repeated_total(n: &[u64; 5], s: &[u8]) -> Answer {
-    answers::of_total(totals::repeated_total(n[0] as usize, s, n[1]))
+    answers::of_total(totals::repeated_total(n[0] as usize, s, n[1], n[2]))
 }
 
 fn extract(n: &[u64; 5], s: &[u8]) -> Answer {

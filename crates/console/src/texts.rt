@@ -5,7 +5,7 @@ ghost use lib.ListN.{length};
 use crate::say;
 use crate::words;
 
-pub const HELP: [u8; 1915] = *b"\
+pub const HELP: [u8; 2018] = *b"\
 A request is a line:\n\
 \x20   codewords ORDER ROW                             codewords 2 3 1 4 2 1\n\
 \x20   write ORDER ROW                                 write 2 3 1 4 2 1\n\
@@ -14,7 +14,7 @@ A request is a line:\n\
 \x20   table-read-bytes BYTES                          table-read-bytes 6D B8\n\
 \x20   append ORDER NUMBER BYTES                       append 2 600 3E DE\n\
 \x20   total ORDER FROM TO BYTES                       total 2 0 5 3E DE\n\
-\x20   repeated-total ORDER REPEATS BYTES              repeated-total 3 11 6D B8\n\
+\x20   repeated-total ORDER REPEATS SHARED BYTES       repeated-total 3 11 20 6D B8\n\
 \x20   build ORDER ALPHABET ROW                        build 2 4 3 1 4 2 1\n\
 \x20   extract ORDER ALPHABET LENGTH PLACE INDEX       extract 2 4 5 2 6B 40\n\
 \x20   rank ORDER ALPHABET LENGTH NUMBER PLACE INDEX   rank 2 4 5 1 3 6B 40\n\
@@ -28,6 +28,7 @@ A request is a line:\n\
 \x20   used N append ORDER NUMBER BYTES                used 1 append 2 4 FC FF FF\n\
 ROW: numbers; 1x4096 is 4096 ones. BYTES, INDEX: two hexadecimal digits each; FFx1024 is 1024 times FF.\n\
 ORDER: 2 to 6. ALPHABET: the largest number of an index. FROM, TO, PLACE: from 0; USE: from 1.\n\
+REPEATS: 1 to 10000. SHARED: what each repeat has in common with the next, 0 up to the row's total.\n\
 table-..: by the table for order 3. TEXT: input of the listing program; $ is a line feed, ^ a carriage return, ~ a tab.\n\
 room N: the output of a request that writes has N elements, and all are shown. used N: the buffer is BYTES, of which N are in use.\n\
 NO n: a refusal, with its number. A line that begins with # is passed over.\n";

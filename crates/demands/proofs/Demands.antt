@@ -3,6 +3,7 @@ use Rattle.demands.specs.Demands.{Demands}
 use Rattle.demands.proofs.Codes.{demand-3}
 use Rattle.demands.proofs.RoundTrip.{round-trip}
 use Rattle.demands.proofs.Readers.{two-readers}
+use Rattle.demands.proofs.Totals.{totals-demand}
 use Rattle.demands.proofs.Index.{index-demand, built-answers}
 use Rattle.demands.proofs.Listing.{listing-demand}
 use Rattle.demands.proofs.Pencil.{pencil-holds}
@@ -14,6 +15,7 @@ demands-hold =
       codes = demand-3;
       readers = two-readers;
       round-trip = round-trip;
+      totals = totals-demand;
       index = index-demand;
       built = built-answers;
       listing = listing-demand;

@@ -5,17 +5,15 @@ use mathlib.Core.List.{List, [], _∷_, _++_, flatten}
 use Prim.Native.Nat.{ℕ, zero, suc, _*_, _≤_}
 use native.Mathlib.Omega.{arith}
 use native.Mathlib.Nat.{suc-mul}
-use lib.ListN.{length, take, replicate, length-append, length-replicate}
-use lib.Seq.{take-all, take-append-seam}
+use lib.ListN.{length, take, length-append, length-replicate}
+use lib.Seq.{take-append-seam}
 use borrow.Author.Tests.{lt-ltb}
-use Rattle.lists.specs.Lists.{sum}
 use Rattle.lists.proofs.Each.{all-same}
-use Rattle.lists.proofs.Sums.{sum-same}
 use Rattle.bits.specs.Bits.{bitOf, wordBits, unpack, wordOf, bytesOf, byteCount, pack, count}
 use Rattle.bits.proofs.Packing.{pack-length}
 use Rattle.fibonacci.specs.Code.{past, F, value, first, number, size, digits, codeword}
 use Rattle.fibonacci.specs.Encoding.{rowBits, encoding, parseAfter, parse, numbers}
-use Rattle.calls.proofs.Checks.{is-order, number-is, is-number, positive}
+use Rattle.calls.proofs.Checks.{is-order, number-is, positive}
 use Rattle.calls.specs.declared.Refusal.the-variants.{TooManyNumbers, TooManyCodewords, FullRow}
 use Rattle.calls.specs.Calls.{accepted, refused}
 use Rattle.calls.specs.Limits.{Order, isOrder, isNumber, isOutside, Legal, maxNumber, maxCount, checkEach}
@@ -25,14 +23,13 @@ use Rattle.fibonacci.proofs.Lookup.{codeword-short}
 use Rattle.reading.specs.Reading.{fibonacci, read, readInto}
 use Rattle.reading.proofs.Checking.{contents-many}
 use Rattle.reading.proofs.Decoding.{decode-contents}
-use Rattle.totals.specs.Totals.{total, repeatedTotal}
 use Rattle.encoder.specs.Writing.{write}
 use Rattle.encoder.proofs.Writing.{write-accepts}
 use Rattle.appender.specs.Appending.{append}
 use Rattle.appender.proofs.Appending.{extend-full, append-read}
 use Rattle.demands.proofs.RoundTrip.{decode-encoding}
 use Rattle.demands.specs.Pencil.{answer}
-use Rattle.demands.specs.Sentences.{onesRow, Largest, largestRow, Sentences}
+use Rattle.demands.specs.Sentences.{onesRow, Largest, Sentences}
 
 -- ## 4,096 ones
 
@@ -102,29 +99,10 @@ largest-number : Largest
 unfolding answer flatten bitOf wordBits unpack wordOf bytesOf pack count past F value first number size digits codeword rowBits encoding parseAfter parse numbers isOrder isNumber isOutside checkEach checkFinished contents decode read readInto write
 largest-number = record { written = refl; read-back = refl; next = refl }
 
--- ## The largest totals
-
-decode-largest : (m : ℕ) → Order m → decode (fibonacci m) maxNumber (encoding m largestRow) ≡ accepted largestRow
-unfolding largestRow
-decode-largest m o =
-    decode-encoding m largestRow o (omega (arith, length-replicate maxCount maxNumber)) (all-same (λ n. isNumber maxNumber n ≡ true) maxCount maxNumber (is-number maxNumber maxNumber (omega arith) (omega arith)))
-
-largest-total : (m : ℕ) → Order m → total m (encoding m largestRow) 0 maxCount ≡ accepted 17592186040320
-unfolding total largestRow
-largest-total m o =
-    let l = length-replicate maxCount maxNumber in
-    rw (is-order m o, decode-largest m o) (ap accepted (ap sum (take-all maxCount largestRow (omega arith)) ∙ sum-same maxCount maxNumber))
-
-largest-repeated : (m : ℕ) → Order m → repeatedTotal m (encoding m largestRow) 10000 ≡ accepted 175921860403200000
-unfolding repeatedTotal largestRow
-largest-repeated m o = rw (is-order m o, decode-largest m o) (ap (λ (x : ℕ). accepted (10000 * x)) (sum-same maxCount maxNumber))
-
 pub sentences-hold : Sentences
 sentences-hold =
     record {
       longest = λ m o n e. let h = number-is maxNumber n e in codeword-short m n o (h .0) (h .1);
       ones = λ m o. record { full = full m o; written = written m o; read-back = read-back m o; appended = appended m o };
       largest-number = largest-number;
-      largest-total = largest-total;
-      largest-repeated = largest-repeated;
     }

@@ -3,6 +3,7 @@ use Prim.Native.Nat.{ℕ, _≤_}
 use Rattle.demands.specs.Codes.{Demand3}
 use Rattle.demands.specs.RoundTrip.{RoundTrip}
 use Rattle.demands.specs.Readers.{TwoReaders}
+use Rattle.demands.specs.Totals.{TotalsDemand}
 use Rattle.demands.specs.Index.{IndexDemand, BuiltAnswers}
 use Rattle.demands.specs.Listing.{ListingDemand}
 use Rattle.demands.specs.Pencil.{Pencil}
@@ -12,8 +13,9 @@ pub record Demands : Type 0 where
   -- Demand 3, shown for every order at once, and its last sentence with demand 2's on the two readers
   pub codes : (m : ℕ) → 2 ≤ m → Demand3 m
   pub readers : TwoReaders
-  -- Demand 2: writing, reading and appending; the index and its questions
+  -- Demand 2: writing, reading and appending; totals; the index and its questions
   pub round-trip : (m : ℕ) → RoundTrip m
+  pub totals : TotalsDemand
   pub index : (m N : ℕ) → 2 ≤ m → 1 ≤ N → IndexDemand m N
   pub built : BuiltAnswers
   -- Paper 01: the listing; its worked examples, and the sentences beside them

@@ -1,6 +1,7 @@
 pub mod Codes
 pub mod RoundTrip
 pub mod Readers
+pub mod Totals
 pub mod Index
 pub mod Listing
 pub mod Pencil

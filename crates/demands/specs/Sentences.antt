@@ -1,4 +1,4 @@
--- Paper 01, the sentences under "Knots to check by pencil", and those on the longest codeword and on totals.
+-- Paper 01, the sentences under "Knots to check by pencil", and the one on the longest codeword.
 use mathlib.Core.Path.{_≡_}
 use mathlib.Core.Bool.{true}
 use mathlib.Core.List.{List, [], _∷_, _++_}
@@ -10,7 +10,6 @@ use Rattle.calls.specs.declared.Refusal.the-variants.{TooManyNumbers, TooManyCo
 use Rattle.calls.specs.Calls.{accepted, refused}
 use Rattle.calls.specs.Limits.{Order, isNumber, maxNumber, maxCount}
 use Rattle.reading.specs.Reading.{read}
-use Rattle.totals.specs.Totals.{total, repeatedTotal}
 use Rattle.encoder.specs.Writing.{write}
 use Rattle.appender.specs.Appending.{append}
 use Rattle.demands.specs.Pencil.{answer, Read, orders}
@@ -34,16 +33,9 @@ pub record Largest : Type 0 where
   pub read-back : orders (λ m. answer (Read m (encoding m (maxNumber ∷ [])) 1)) ≡ replicate 5 (0, 0, 1 ∷ [], maxNumber ∷ [])
   pub next : orders (λ m. answer (Read m (encoding m (suc maxNumber ∷ [])) 1)) ≡ replicate 5 (7, 0, [], 0 ∷ [])
 
--- As many of the largest number as a row can have
-unfoldable pub largestRow : List ℕ
-largestRow = replicate maxCount maxNumber
-
 -- For every order
 pub record Sentences : Type 0 where
   -- "The longest codeword of a legal number has 47 bits": no legal number's has more, in any order; in order 2 the largest number's has so many (below)
   pub longest : (m : ℕ) → Order m → (n : ℕ) → isNumber maxNumber n ≡ true → length (codeword m n) ≤ 47
   pub ones : (m : ℕ) → Order m → Ones m
   pub largest-number : Largest
-  -- "Totals are 64-bit": the largest there are, reached and exact
-  pub largest-total : (m : ℕ) → Order m → total m (encoding m largestRow) 0 maxCount ≡ accepted 17592186040320
-  pub largest-repeated : (m : ℕ) → Order m → repeatedTotal m (encoding m largestRow) 10000 ≡ accepted 175921860403200000

@@ -1,5 +1,5 @@
 // Every operation of the library for tests and benchmarks in other languages: `probe_X` calls X on the caller's own buffers. What the call answers goes to
-// the last parameter, as far as that has room: paper 01's answer number, the place, and three results, which are zeros where there are none.
+// the last parameter, as far as that has room: the papers' answer number, the place, and three results, which are zeros where there are none.
 ghost use mathlib.Core.Path.{_≡_};
 ghost use lib.ListN.{length, set};
 ghost use lib.Seq.{sets};
@@ -90,12 +90,18 @@ pub extern "C" fn probe_total(order: usize, s: &[u8], a: usize, b: usize, answer
 }
 
 #[no_mangle]
-pub extern "C" fn probe_repeated_total(order: usize, s: &[u8], repeats: u64, answer: &mut [u64])
-    ensures { λ r. ⌜ now (answer .exit) ≡ told (single (repeatedTotal order (now (s .entry)) repeats)) (now (answer .entry)) ⌝ }
+pub extern "C" fn probe_repeated_total(
+    order: usize,
+    s: &[u8],
+    repeats: u64,
+    shared: u64,
+    answer: &mut [u64],
+)
+    ensures { λ r. ⌜ now (answer .exit) ≡ told (single (repeatedTotal order (now (s .entry)) repeats shared)) (now (answer .entry)) ⌝ }
 {
     tell(
         answer,
-        answers::of_total(totals::repeated_total(order, s, repeats)),
+        answers::of_total(totals::repeated_total(order, s, repeats, shared)),
     );
 }
 

@@ -1,12 +1,12 @@
--- Totals of the numbers of an encoding (paper 01, "When a call says no": Total, Runner). The checks stand in the paper's order.
+-- Totals of the numbers of an encoding (paper 01, "When a call says no": Total, Runner; paper 02, R-1). The checks stand in the papers' order.
 use mathlib.Core.Bool.{not}
 use mathlib.Core.List.{List}
-use Prim.Native.Nat.{ℕ, _*_}
+use Prim.Native.Nat.{ℕ, _*_, _-_}
 use lib.Dec.{ltb}
 use lib.ListN.{length}
 use lib.Seq.{slice}
 use Rattle.lists.specs.Lists.{sum}
-use Rattle.calls.specs.declared.Refusal.the-variants.{BadOrder, BadSpan, BadRepeats}
+use Rattle.calls.specs.declared.Refusal.the-variants.{BadOrder, BadSpan, BadRepeats, TooMuchShared}
 use Rattle.calls.specs.Calls.{Outcome, accepted, refused, check, andThen}
 use Rattle.calls.specs.Limits.{isOrder, maxNumber, within}
 use Rattle.calls.specs.Reading.{decode}
@@ -21,11 +21,13 @@ total m s a b = check BadOrder (not (isOrder m)) (andThen (decode (fibonacci m) 
     (check BadSpan (ltb (length row) b)
     (accepted (sum (slice a b row))))))
 
--- Repeated total (paper 01: the runner's width): 14 r not 1 to 10,000; else r times the row's total
-unfoldable pub repeatedTotal : ℕ → List ℕ → ℕ → Outcome ℕ
-repeatedTotal m s r = check BadOrder (not (isOrder m)) (andThen (decode (fibonacci m) maxNumber s) (λ row.
+-- Repeated total (paper 01: the runner's width, of r repeats; paper 02: each shares knots with the next): 14 r not 1 to 10,000; 15 more is shared than the row's
+-- total; else r times the row's total, less (r - 1) times what is shared
+unfoldable pub repeatedTotal : ℕ → List ℕ → ℕ → ℕ → Outcome ℕ
+repeatedTotal m s r shared = check BadOrder (not (isOrder m)) (andThen (decode (fibonacci m) maxNumber s) (λ row.
     check BadRepeats (not (within 1 10000 r))
-    (accepted (r * sum row))))
+    (check TooMuchShared (ltb (sum row) shared)
+    (accepted (r * sum row - (r - 1) * shared)))))
 
 -- The answers of the functions
 abbrev pub totalOutcome : TotalAnswer → Outcome ℕ

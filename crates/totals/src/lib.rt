@@ -29,9 +29,9 @@ pub fn total(order: usize, s: &[u8], a: usize, b: usize) -> TotalAnswer
     }
 }
 
-// The total of the row, so many times.
-pub fn repeated_total(order: usize, s: &[u8], repeats: u64) -> TotalAnswer
-    ensures { λ r. ⌜ totalOutcome r ≡ repeatedTotal order (now (s .entry)) repeats ⌝ }
+// The total of the row repeated so many times, where what each repeat shares with the next counts once.
+pub fn repeated_total(order: usize, s: &[u8], repeats: u64, shared: u64) -> TotalAnswer
+    ensures { λ r. ⌜ totalOutcome r ≡ repeatedTotal order (now (s .entry)) repeats shared ⌝ }
 {
     if !calls::is_order(order) {
         return TotalAnswer::Refused(calls::Refusal::BadOrder);
@@ -45,7 +45,13 @@ pub fn repeated_total(order: usize, s: &[u8], repeats: u64) -> TotalAnswer
             if repeats > 10000 {
                 return TotalAnswer::Refused(calls::Refusal::BadRepeats);
             }
-            TotalAnswer::Sum(repeats * f.all)
+            let once = f.all;
+            if shared > once {
+                return TotalAnswer::Refused(calls::Refusal::TooMuchShared);
+            }
+            // what a further repeat adds
+            let more = once - shared;
+            TotalAnswer::Sum(once + (repeats - 1) * more)
         }
         decoder::SpanAnswer::Refused(r) => TotalAnswer::Refused(r),
     }

@@ -122,6 +122,12 @@ enum-told-17 c = search needs
 with-place-requires-20 : tie.Need-with-place-requires-20
 with-place-requires-20 c κs = search needs
 
+enum-told-18 : tie.Need-enum-told-18
+enum-told-18 c = search needs
+
+with-place-requires-21 : tie.Need-with-place-requires-21
+with-place-requires-21 c κs = search needs
+
 returns : tie.Need-returns
 returns c = rw (c .before .enum-told .given .1) (c .with-place .ensures)
 
@@ -182,6 +188,9 @@ returns-19 c = rw (c .before .enum-told16 .given .1) (c .with-place19 .ensures)
 returns-20 : tie.Need-returns-20
 returns-20 c = rw (c .before .enum-told17 .given .1) (c .with-place20 .ensures)
 
+returns-21 : tie.Need-returns-21
+returns-21 c = rw (c .before .enum-told18 .given .1) (c .with-place21 .ensures)
+
 pub reason-spec : {M : Type 1} → statement M
 reason-spec =
     tie.close
@@ -226,6 +235,8 @@ reason-spec =
     with-place-requires-19
     enum-told-17
     with-place-requires-20
+    enum-told-18
+    with-place-requires-21
     returns
     returns-2
     returns-3
@@ -245,4 +256,5 @@ reason-spec =
     returns-17
     returns-18
     returns-19
-    returns-20)
+    returns-20
+    returns-21)
