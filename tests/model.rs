@@ -351,10 +351,11 @@ pub fn repeated_total(order: u64, bytes: &[u8], r: u64, shared: u64) -> Answer<u
     if r < 1 || r > 10_000 {
         return Answer::no(refusal(14));
     }
-    if shared > sum(&row) {
+    let total = sum(&row);
+    if shared > total {
         return Answer::no(refusal(15));
     }
-    Answer::yes(r * sum(&row) - (r - 1) * shared)
+    Answer::yes(r * total - (r - 1) * shared)
 }
 
 // ---- The row index ----

@@ -4,7 +4,7 @@ use std::fmt::Debug;
 
 use crate::border::{Called, Told, CASE, SEED};
 
-/// Each operation, with the answers that papers 01 and 02 give it: every one has to come, and no other may. Those of the listing are told by its text, and 5 by an
+/// Each operation, with the answers that the papers give it: every one has to come, and no other may. Those of the listing are told by its text, and 5 by an
 /// output that the text does not fit.
 const OPERATIONS: [(&str, &[&str]); 12] = [
     ("write", &["0", "1", "4", "3", "5"]),

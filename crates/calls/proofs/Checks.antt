@@ -110,6 +110,20 @@ pub then-passed : {A B : Type 0} (d : Outcome A) (next : A → Outcome B) (x : B
 then-passed (accepted y) next x e = (y, refl, e)
 then-passed (refused r) next x e = absurd (not-both e)
 
+-- what comes after a check, or after a part, may be put into it
+pub check-then : {A B : Type 0} (r : Refusal) (t : Bool) (d : Outcome A) (next : A → Outcome B) → andThen (check r t d) next ≡ check r t (andThen d next)
+check-then r true d next = refl
+check-then r false d next = refl
+
+pub then-then : {A B C : Type 0} (d : Outcome A) (f : A → Outcome B) (next : B → Outcome C) → andThen (andThen d f) next ≡ andThen d (λ x. andThen (f x) next)
+then-then (accepted x) f next = refl
+then-then (refused r) f next = refl
+
+-- two chains that begin with the same part answer alike where what comes after does
+pub then-same : {A B : Type 0} (d : Outcome A) (f g : A → Outcome B) → ((x : A) → f x ≡ g x) → andThen d f ≡ andThen d g
+then-same (accepted x) f g h = h x
+then-same (refused r) f g h = refl
+
 -- two chains that begin with the same check refuse alike where what comes after does
 either : {A B : Type 0} (r : Refusal) (t : Bool) (x : Outcome A) (y : Outcome B) (q : Refusal) → (x ≡ refused q → y ≡ refused q)
     → check r t x ≡ refused q → check r t y ≡ refused q

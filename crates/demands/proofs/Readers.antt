@@ -11,10 +11,10 @@ use borrow.Author.Tests.{lt-ltb, le-ltb}
 use Rattle.bits.specs.Bits.{unpack}
 use Rattle.fibonacci.specs.Encoding.{numbers}
 use Rattle.calls.specs.declared.Refusal.the-variants.{NoRoom}
-use Rattle.calls.specs.Calls.{Outcome, accepted, refused, check, andThen}
+use Rattle.calls.specs.Calls.{accepted, check}
 use Rattle.calls.specs.Limits.{maxNumber}
-use Rattle.calls.specs.Reading.{decode, counted}
-use Rattle.calls.proofs.Checks.{is-order}
+use Rattle.calls.specs.Reading.{decode}
+use Rattle.calls.proofs.Checks.{is-order, then-same}
 use Rattle.reading.specs.Reading.{fibonacci, read, readInto}
 use Rattle.reading.proofs.Decoding.{decode-is, read-is, read-row}
 use Rattle.table_decoder.specs.Reading.{readTable, readTableInto, rowBytes, readBytes, readBytesInto}
@@ -49,11 +49,9 @@ room-bytes room n =
 
 bytes-read : (s : List ℕ) (room : ℕ) → readBytes s room ≡ read 3 s (room / 4)
 unfolding readBytes read
-bytes-read s room = rw (order-3, table-decode s) (by (decode (fibonacci 3) maxNumber s))
-  where
-    by : (d : Outcome (List ℕ)) → andThen d (λ row. check NoRoom (ltb room (4 * length row)) (accepted (length row))) ≡ andThen d (counted (room / 4))
-    by (accepted row) = ap (λ (t : Bool). check NoRoom t (accepted (length row))) (room-bytes room (length row))
-    by (refused r) = refl
+bytes-read s room =
+    rw (order-3, table-decode s)
+    (then-same (decode (fibonacci 3) maxNumber s) _ _ (λ row. ap (λ (t : Bool). check NoRoom t (accepted (length row))) (room-bytes room (length row))))
 
 bytes-written : (s before : List ℕ) (count : ℕ) → readBytes s (length before) ≡ accepted count
     → (count ≡ length (numbers 3 (unpack s))) × (readBytesInto s before ≡ rowBytes (numbers 3 (unpack s)) ++ drop (4 * count) before)

@@ -1,6 +1,6 @@
 -- Totals are exact, and how large they can be.
 use mathlib.Core.Path.{_≡_, refl, sym, ap, _∙_}
-use mathlib.Core.Bool.{Bool, true, false, not}
+use mathlib.Core.Bool.{true, not}
 use mathlib.Core.List.{List}
 use Prim.Native.Nat.{ℕ, _+_, _*_, _-_, _≤_}
 use native.Mathlib.Omega.{arith}
@@ -13,30 +13,16 @@ use Rattle.lists.specs.Lists.{sum}
 use Rattle.lists.proofs.Each.{all-same}
 use Rattle.lists.proofs.Sums.{sum-same}
 use Rattle.fibonacci.specs.Encoding.{encoding}
-use Rattle.calls.specs.declared.Refusal.{Refusal}
 use Rattle.calls.specs.declared.Refusal.the-variants.{BadOrder, BadSpan, BadRepeats, TooMuchShared}
-use Rattle.calls.specs.Calls.{Outcome, accepted, refused, check, andThen}
+use Rattle.calls.specs.Calls.{accepted, check, andThen}
 use Rattle.calls.specs.Limits.{isOrder, Order, isNumber, maxNumber, maxCount, within}
 use Rattle.calls.specs.Reading.{decode}
-use Rattle.calls.proofs.Checks.{within-both, is-order, is-number, accepted-one, check-passed, then-passed}
+use Rattle.calls.proofs.Checks.{within-both, is-order, is-number, accepted-one, check-passed, then-passed, check-then, then-then, then-same}
 use Rattle.reading.specs.Reading.{fibonacci}
 use Rattle.totals.specs.Totals.{total, repeatedTotal}
 use Rattle.totals.proofs.Totals.{span-most, row-most, repeats-all, repeats-less, repeats-most}
 use Rattle.demands.specs.Totals.{plainRepeated, largestRow, LargestTotals, TotalsDemand}
 use Rattle.demands.proofs.RoundTrip.{decode-encoding}
-
--- ## Two chains that begin alike
-
-then-same : {A B : Type 0} (d : Outcome A) (f g : A → Outcome B) → ((x : A) → f x ≡ g x) → andThen d f ≡ andThen d g
-then-same (accepted x) f g h = h x
-then-same (refused r) f g h = refl
-
--- .. of which the one goes on where the other has ended
-then-on : {A B C : Type 0} (r : Refusal) (t : Bool) (d : Outcome A) (f : A → Outcome C) (g : A → Outcome B) (next : B → Outcome C)
-    → ((x : A) → f x ≡ andThen (g x) next) → check r t (andThen d f) ≡ andThen (check r t (andThen d g)) next
-then-on r true d f g next h = refl
-then-on r false (accepted x) f g next h = h x
-then-on r false (refused q) f g next h = refl
 
 -- ## What repeats share
 
@@ -51,8 +37,10 @@ one-repeat : (m : ℕ) (s : List ℕ) (shared : ℕ)
     → repeatedTotal m s 1 shared ≡ andThen (plainRepeated m s 1) (λ x. check TooMuchShared (ltb x shared) (accepted x))
 unfolding repeatedTotal plainRepeated
 one-repeat m s shared =
-    then-on BadOrder (not (isOrder m)) (decode (fibonacci m) maxNumber s) _ _ (λ x. check TooMuchShared (ltb x shared) (accepted x))
-    (λ row. rw (one-mul (sum row), zero-mul shared, sub-zero (sum row)) refl)
+    let d = decode (fibonacci m) maxNumber s in
+    sym (check-then BadOrder (not (isOrder m)) _ _
+    ∙ ap (check BadOrder (not (isOrder m)))
+    (then-then d _ _ ∙ then-same d _ _ (λ row. rw (one-mul (sum row), zero-mul shared, sub-zero (sum row)) refl)))
 
 -- what passes every check is accepted
 accepts : (m : ℕ) (s row : List ℕ) (r shared : ℕ) → Order m → decode (fibonacci m) maxNumber s ≡ accepted row → (1 ≤ r) × (r ≤ 10000) → shared ≤ sum row

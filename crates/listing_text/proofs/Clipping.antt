@@ -8,7 +8,7 @@ use native.Mathlib.Decide.{decLe}
 use lib.Dec.{leb, ltb, eqb}
 use lib.ListN.{length, getD, take, drop, length-map}
 use borrow.Author.Tests.{lt-leb, lt-ltb}
-use Rattle.calls.proofs.Checks.{order-is, number-is, each-accepted, each-refused}
+use Rattle.calls.proofs.Checks.{order-is, number-is, check-then, each-accepted, each-refused}
 use Rattle.calls.specs.declared.Refusal.{Refusal}
 use Rattle.calls.specs.declared.Refusal.the-variants.{BadOrder, BadNumber, TooManyNumbers}
 use Rattle.calls.specs.Calls.{Outcome, accepted, refused, check, andThen}
@@ -54,12 +54,8 @@ unfolding listingOf write
 list-fault m row r e =
     ap (λ (o : Outcome (ℕ × ℕ)). andThen (check BadOrder (not (isOrder m)) (check TooManyNumbers (ltb maxCount (length row)) o)) (λ x. accepted (lines m row (x .0))))
     (each-refused BadNumber maxNumber 0 row 0 r _ e)
-    ∙ none (not (isOrder m)) (ltb maxCount (length row)) _
-  where
-    none : (t u : Bool) (next : ℕ × ℕ → Outcome (List ℕ)) → andThen (check BadOrder t (check TooManyNumbers u (refused r))) next ≡ check BadOrder t (check TooManyNumbers u (refused r))
-    none true u next = refl
-    none false true next = refl
-    none false false next = refl
+    ∙ check-then BadOrder (not (isOrder m)) _ _
+    ∙ ap (check BadOrder (not (isOrder m))) (check-then TooManyNumbers (ltb maxCount (length row)) (refused r) _)
 
 list-row : (m : ℕ) (row : List ℕ) → listingOf m (map numberOrZero row) ≡ listingOf m row
 list-row m row = by (checkEach {A = ℕ} BadNumber maxNumber 0 row (accepted 0)) refl
