@@ -13,8 +13,9 @@ use Rattle.bits.specs.Leaves.{putAt}
 use Rattle.bits.proofs.Bytes.{unpack-length, unpack-take}
 use Rattle.bits.proofs.Packing.{pack-length}
 use Rattle.bits.proofs.Put.{put-packed}
+use Rattle.codes.specs.Parse.{rest}
 use Rattle.fibonacci.specs.Code.{codeword}
-use Rattle.fibonacci.specs.Encoding.{rowBits, encoding, rest, parse, numbers}
+use Rattle.fibonacci.specs.Encoding.{rowBits, encoding, parse, numbers}
 use Rattle.fibonacci.proofs.Rows.{numbers-bits, bits-snoc}
 use Rattle.calls.specs.declared.Refusal.{Refusal}
 use Rattle.calls.specs.declared.Refusal.the-variants.{BadOrder, PastBuffer, BadNumber, FullRow, NoRoom}

@@ -7,8 +7,9 @@ use Prim.Native.Nat.{ℕ, zero, suc, _+_, _-_, _*_, _/_, _%_, _^_, _≤_, _<_}
 use lib.ListN.{length, getD, take, drop}
 use Rattle.lists.specs.Lists.{valuesFrom}
 use Rattle.bits.specs.Bits.{wordBits}
+use Rattle.codes.specs.Parse.{Parse, parsed, codewords, rest}
 use Rattle.fibonacci.specs.Code.{F, ones, value, number}
-use Rattle.fibonacci.specs.Encoding.{Parse, parsed, codewords, rest, parse}
+use Rattle.fibonacci.specs.Encoding.{parse}
 use Rattle.fibonacci.specs.Leaves.{numberOrZero}
 use Rattle.byte_table.specs.declared.Rest.{Rest}
 use Rattle.byte_table.specs.declared.Row.{Row}
@@ -58,18 +59,18 @@ moved len coef0 coef1 coef2 = F 3 len * coef0 + twoBack (suc len) * coef1 + twoB
 -- ## A row
 
 -- A byte after trailing ones, parsed
-unfoldable pub parseByte : ℕ → ℕ → Parse
+unfoldable pub parseByte : ℕ → ℕ → Parse Bool
 parseByte run byte = parse 3 (ones run ++ wordBits 8 byte)
 
 -- What finishes the pending codeword: the bits before the last ones of the first codeword that ends. Where none ends, what makes it longer: the bits before
 -- the trailing ones
-unfoldable pub finishing : Parse → List Bool
+unfoldable pub finishing : Parse Bool → List Bool
 unfolding withoutTrailing
 finishing (parsed [] r) = withoutTrailing r
 finishing (parsed (w ∷ ws) r) = take (length w - 3) w
 
 -- The numbers of the codewords that lie inside the byte
-unfoldable pub insideNumbers : Parse → List ℕ
+unfoldable pub insideNumbers : Parse Bool → List ℕ
 insideNumbers p = map (number 3) (drop 1 (codewords p))
 
 -- What remains: length, value, trailing ones
@@ -79,7 +80,7 @@ remains r = record { len = length (withoutTrailing r); value = value0 (withoutTr
 
 -- What a row says: how many codewords end; what finishes the pending one, its length and its values; the codewords inside the byte, two at most; and what
 -- remains
-unfoldable pub rowOfParse : Parse → Row
+unfoldable pub rowOfParse : Parse Bool → Row
 unfolding finishing insideNumbers remains
 rowOfParse p =
     record {

@@ -8,12 +8,15 @@ use lib.ListN.{length, take, drop, length-append, length-replicate, drop-of-leng
 use lib.Seq.{take-at}
 use Rattle.bits.specs.Bits.{unpack}
 use Rattle.bits.proofs.Bytes.{unpack-length}
+use Rattle.codes.specs.Rows.{Positive}
+use Rattle.codes.specs.Parse.{parsed}
+use Rattle.codes.proofs.Parse.{onto, onto-parsed}
 use Rattle.fibonacci.specs.Code.{ones, value, first, number, codeword, size, Codeword}
-use Rattle.fibonacci.specs.Encoding.{Positive, rowBits, parsed, parse, numbers}
+use Rattle.fibonacci.specs.Encoding.{rowBits, parse, numbers}
 use Rattle.fibonacci.proofs.Lookup.{first-few}
 use Rattle.fibonacci.proofs.Numbers.{codeword-number, number-of}
 use Rattle.fibonacci.proofs.Numeration.{digits-length}
-use Rattle.fibonacci.proofs.Parse.{onto, onto-parsed, parse-rest}
+use Rattle.fibonacci.proofs.Parse.{parse-rest}
 use Rattle.fibonacci.proofs.Rows.{row-numbers, bits-parse, bits-numbers}
 use Rattle.calls.specs.declared.Refusal.the-variants.{TooManyCodewords, TooLarge, BadRest}
 use Rattle.calls.specs.Calls.{accepted, refused}

@@ -10,7 +10,8 @@ use Rattle.bits.specs.Bits.{Bytes, unpack, bytesOf, pack, padding, count}
 use Rattle.bits.proofs.Bytes.{unpack-length}
 use Rattle.bits.proofs.Packing.{unpack-pack, padding-below, pack-length, pack-bytes, unpack-apart}
 use Rattle.bits.proofs.Count.{zeros-none, none-zeros}
-use Rattle.fibonacci.specs.Encoding.{rowBits, encoding, rest, parse}
+use Rattle.codes.specs.Parse.{rest}
+use Rattle.fibonacci.specs.Encoding.{rowBits, encoding, parse}
 use Rattle.calls.proofs.Checks.{is-order, positive}
 use Rattle.calls.specs.Calls.{accepted}
 use Rattle.calls.specs.Limits.{Order, isNumber, Legal, maxNumber, maxCount}

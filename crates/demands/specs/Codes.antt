@@ -7,8 +7,10 @@ use Prim.Native.Nat.{ℕ, suc, _+_, _≤_, _<_}
 use lib.ListN.{length, replicate}
 use Rattle.lists.specs.Lists.{sum, valuesFrom}
 use Rattle.bits.specs.Bits.{unpack, padding}
+use Rattle.codes.specs.Rows.{Positive}
+use Rattle.codes.specs.Parse.{Parse, parsed}
 use Rattle.fibonacci.specs.Code.{F, ones, Codeword, Form, value, first, number, codeword}
-use Rattle.fibonacci.specs.Encoding.{Positive, rowBits, encoding, Parse, parsed, IsParse, parse}
+use Rattle.fibonacci.specs.Encoding.{rowBits, encoding, IsParse, parse}
 
 pub record Demand3 (m : ℕ) : Type 0 where
   -- 1. Each codeword means a number from 1 up, and each such number has exactly one codeword
@@ -23,7 +25,7 @@ pub record Demand3 (m : ℕ) : Type 0 where
   pub numbers-of-length : (w : List Bool) (d : ℕ) → Codeword m w → (length w ≡ d + m) ↔ ((first m d ≤ number m w) × (number m w < first m (suc d)))
   -- 2. Every string of bits is made of codewords and a rest without m ones in a row, and that in one way only
   pub has-parse : (b : List Bool) → IsParse m b (parse m b)
-  pub no-other-parse : (b : List Bool) (s : Parse) → IsParse m b s → s ≡ parse m b
+  pub no-other-parse : (b : List Bool) (s : Parse Bool) → IsParse m b s → s ≡ parse m b
   -- 3. Two rows with the same bytes are the same row; the bits of one row begin those of another exactly when the one row begins the other
   pub rows-apart : (a b : List ℕ) → Positive a → Positive b → encoding m a ≡ encoding m b → a ≡ b
   pub rows-begin : (a b : List ℕ) → Positive a → Positive b → IsPrefix (rowBits m a) (rowBits m b) ↔ IsPrefix a b

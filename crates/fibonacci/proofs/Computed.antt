@@ -6,8 +6,9 @@ use Prim.Native.Nat.{ℕ}
 use lib.ListN.{length}
 use Rattle.lists.specs.Lists.{valuesFrom}
 use Rattle.bits.specs.Bits.{bitOf, wordBits}
+use Rattle.codes.specs.Parse.{parsed}
 use Rattle.fibonacci.specs.Code.{past, F, first, digits, size, codeword}
-use Rattle.fibonacci.specs.Encoding.{parsed, parse, parseAfter}
+use Rattle.fibonacci.specs.Encoding.{parse, parseAfter}
 use Rattle.calls.specs.Limits.{maxNumber}
 
 -- Bits as a binary numeral with a one put before them, so that zeros at the start count: 0b1_011 is 011

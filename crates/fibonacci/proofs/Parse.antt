@@ -9,9 +9,14 @@ use native.Mathlib.Nat.{zero-add, eq-or-lt-of-le}
 use lib.ListN.{replicate-append-replicate}
 use borrow.Author.Tests.{eq-eqb, ne-eqb}
 use Rattle.lists.specs.Lists.{All}
-use Rattle.fibonacci.specs.Code.{ones, leadingOnes, runs, Codeword}
-use Rattle.fibonacci.specs.Encoding.{parsed, Parse, codewords, rest, IsParse, push, prepend, parseAfter, parse}
+use Rattle.codes.specs.Parse.{Parse, parsed, codewords, rest, push, prepend}
+use Rattle.codes.proofs.Parse.{push-joined, prepend-joined, push-prepend}
+use Rattle.codes.proofs.Codes as codes
+use Rattle.codes.proofs.Codes.{IsCode}
+use Rattle.fibonacci.specs.Code.{ones, leadingOnes, runs, Codeword, number, codeword}
+use Rattle.fibonacci.specs.Encoding.{Rest, IsParse, parseAfter, parse}
 use Rattle.fibonacci.proofs.Runs.{runs-more, runs-after, lead-ones, runs-ones, runs-all, ones-on, runs-reset, runs-full}
+use Rattle.fibonacci.proofs.Numbers.{codeword-good, codeword-number}
 
 -- ## The steps of the parse
 
@@ -25,15 +30,6 @@ after-one m k b h = rw (ne-eqb (suc k) m (λ e. omega arith), parseAfter)
 
 -- ## The parse is codewords and a rest
 
-push-joined : (a : Bool) (s : Parse) → flatten (codewords (push a s)) ++ rest (push a s) ≡ a ∷ (flatten (codewords s) ++ rest s)
-unfolding flatten
-push-joined a (parsed [] r) = refl
-push-joined a (parsed (w ∷ ws) r) = refl
-
-prepend-joined : (w : List Bool) (s : Parse) → flatten (codewords (prepend w s)) ++ rest (prepend w s) ≡ w ++ (flatten (codewords s) ++ rest s)
-unfolding flatten
-prepend-joined w (parsed ws r) = append-assoc w (flatten ws) r
-
 after-joined : (m k : ℕ) (b : List Bool) → k < m → flatten (codewords (parseAfter m k b)) ++ rest (parseAfter m k b) ≡ b
 unfolding parseAfter flatten
 after-joined m k [] h = refl
@@ -45,11 +41,11 @@ after-joined m k (true ∷ b) h =
     (eq-or-lt-of-le h)
 
 -- s is codewords and a rest of what follows k ones, which belong to its first codeword
-Fits : ℕ → ℕ → Parse → Type 0
+Fits : ℕ → ℕ → Parse Bool → Type 0
 Fits m k (parsed [] r) = runs m (ones k ++ r) ≡ 0
 Fits m k (parsed (w ∷ ws) r) = Codeword m (ones k ++ w) × All (Codeword m) ws × (runs m r ≡ 0)
 
-fits-false : (m k : ℕ) (s : Parse) → k < m → Fits m 0 s → Fits m k (push false s)
+fits-false : (m k : ℕ) (s : Parse Bool) → k < m → Fits m 0 s → Fits m k (push false s)
 unfolding Fits
 fits-false m k (parsed [] r) h f = runs-reset m k r h ∙ f
 fits-false m k (parsed (w ∷ ws) r) h f =
@@ -63,17 +59,17 @@ fits-false m k (parsed (w ∷ ws) r) h f =
       f .2,
     )
 
-fits-true : (m k : ℕ) (s : Parse) → Fits m (suc k) s → Fits m k (push true s)
+fits-true : (m k : ℕ) (s : Parse Bool) → Fits m (suc k) s → Fits m k (push true s)
 unfolding Fits
 fits-true m k (parsed [] r) f = rw (ones-on k r) f
 fits-true m k (parsed (w ∷ ws) r) f = rw (ones-on k w) f
 
-fits-all : (m : ℕ) (s : Parse) → Fits m 0 s → All (Codeword m) (codewords s) × (runs m (rest s) ≡ 0)
+fits-all : (m : ℕ) (s : Parse Bool) → Fits m 0 s → All (Codeword m) (codewords s) × (runs m (rest s) ≡ 0)
 unfolding Fits
 fits-all m (parsed [] r) f = (tt, f)
 fits-all m (parsed (w ∷ ws) r) f = ((f .0, f .1), f .2)
 
-fits-full : (m k : ℕ) (s : Parse) → suc k ≡ m → Fits m 0 s → Fits m k (prepend (true ∷ []) s)
+fits-full : (m k : ℕ) (s : Parse Bool) → suc k ≡ m → Fits m 0 s → Fits m k (prepend (true ∷ []) s)
 unfolding Fits
 fits-full m k (parsed ws r) h f =
     let e : ones k ++ (true ∷ []) ≡ ones m = ones-on k [] ∙ ap (λ (l : List Bool). true ∷ l) (append-nil (ones k)) ∙ ap ones h in
@@ -97,9 +93,6 @@ parse-is m b p =
     record { joined = after-joined m 0 b p; coded = f .0; free = f .1 }
 
 -- ## It is the only such one
-
-pub push-prepend : (a : Bool) (w : List Bool) (s : Parse) → push a (prepend w s) ≡ prepend (a ∷ w) s
-push-prepend a w (parsed ws r) = refl
 
 after-ones : (m k j : ℕ) (t : List Bool) → k + suc j ≡ m → parseAfter m k (ones (suc j) ++ t) ≡ prepend (ones (suc j)) (parseAfter m 0 t)
 after-ones m k zero t h = after-full m k t (omega arith)
@@ -143,37 +136,28 @@ after-rest m k (true ∷ r) h q =
     (λ (l : suc k < m). after-one m k r l ∙ ap (push true) (after-rest m (suc k) r l (rw ones-on at q)))
     (eq-or-lt-of-le h)
 
--- codewords in front of a parse
-abbrev pub onto : List (List Bool) → Parse → Parse
-onto [] s = s
-onto (w ∷ ws) s = prepend w (onto ws s)
-
-pub onto-codewords : (ws : List (List Bool)) (s : Parse) → codewords (onto ws s) ≡ ws ++ codewords s
-onto-codewords [] s = refl
-onto-codewords (w ∷ ws) s = codewords-prepend w (onto ws s) ∙ ap (λ (l : List (List Bool)). w ∷ l) (onto-codewords ws s)
-  where
-    codewords-prepend : (w : List Bool) (s : Parse) → codewords (prepend w s) ≡ w ∷ codewords s
-    codewords-prepend w (parsed ws r) = refl
-
-pub onto-parsed : (ws : List (List Bool)) (r : List Bool) → onto ws (parsed [] r) ≡ parsed ws r
-onto-parsed [] r = refl
-onto-parsed (w ∷ ws) r = ap (prepend w) (onto-parsed ws r)
-
-pub parse-flatten : (m : ℕ) (ws : List (List Bool)) (t : List Bool) → 1 ≤ m → All (Codeword m) ws → parse m (flatten ws ++ t) ≡ onto ws (parse m t)
-unfolding parse flatten
-parse-flatten m [] t p a = refl
-parse-flatten m (w ∷ ws) t p a =
-    let c = a .0 in
-    ap (parseAfter m 0) (append-assoc w (flatten ws) t)
-    ∙ subst (λ (w : List Bool). parseAfter m 0 (w ++ (flatten ws ++ t)) ≡ prepend w (parseAfter m 0 (flatten ws ++ t))) (sym (c .ends))
-    (after-codeword m 0 (c .body) (flatten ws ++ t) p (ap (runs m) (sym (c .ends)) ∙ c .once))
-    ∙ ap (prepend w) (parse-flatten m ws t p (a .1))
+parse-front : (m : ℕ) (w t : List Bool) → 1 ≤ m → Codeword m w → parse m (w ++ t) ≡ prepend w (parse m t)
+unfolding parse
+parse-front m w t p c =
+    subst (λ (w : List Bool). parseAfter m 0 (w ++ t) ≡ prepend w (parseAfter m 0 t)) (sym (c .ends))
+    (after-codeword m 0 (c .body) t p (ap (runs m) (sym (c .ends)) ∙ c .once))
 
 pub parse-rest : (m : ℕ) (r : List Bool) → 1 ≤ m → runs m r ≡ 0 → parse m r ≡ parsed [] r
 unfolding parse
 parse-rest m r p h = after-rest m 0 r p h
 
+-- That is all that the laws of any code ask
+pub is-code : (m : ℕ) → 1 ≤ m → IsCode (Codeword m) (Rest m) (codeword m) (number m) (parse m)
+unfolding runs
+is-code m p =
+    record {
+      good = λ n. codeword-good m n p;
+      back = λ w c. codeword-number m w p c .0;
+      front = λ w t. parse-front m w t p;
+      left = λ r. parse-rest m r p;
+      none = refl;
+    }
+
 -- Whatever is made of codewords and a rest is the parse
-pub parse-only : (m : ℕ) (b : List Bool) (s : Parse) → 1 ≤ m → IsParse m b s → s ≡ parse m b
-parse-only m b (parsed ws r) p i =
-    sym (ap (parse m) (sym (i .joined)) ∙ parse-flatten m ws r p (i .coded) ∙ ap (onto ws) (parse-rest m r p (i .free)) ∙ onto-parsed ws r)
+pub parse-only : (m : ℕ) (b : List Bool) (s : Parse Bool) → 1 ≤ m → IsParse m b s → s ≡ parse m b
+parse-only m b s p = codes.parse-only (is-code m p) b s

@@ -11,8 +11,10 @@ use lib.ListN.{length, length-append, length-replicate}
 use borrow.Author.Tests.{le-leb, lt-leb, lt-ltb, eq-eqb, ltb-true, eqb-true}
 use Rattle.bits.specs.Bits.{unpack, count}
 use Rattle.bits.proofs.Count.{count-append}
+use Rattle.codes.specs.Rows.{Positive}
+use Rattle.codes.specs.Parse.{parsed, codewords}
 use Rattle.fibonacci.specs.Code.{ones, value, first, number}
-use Rattle.fibonacci.specs.Encoding.{Positive, parsed, codewords, parse, numbers}
+use Rattle.fibonacci.specs.Encoding.{parse, numbers}
 use Rattle.calls.specs.declared.Refusal.the-variants.{TooManyCodewords, TooLarge, BadRest}
 use Rattle.calls.specs.Calls.{accepted, refused, check}
 use Rattle.calls.specs.Limits.{isNumber, Legal, maxNumber, maxCount}

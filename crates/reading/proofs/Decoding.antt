@@ -8,7 +8,8 @@ use lib.Dec.{leb, ltb}
 use lib.ListN.{length, drop}
 use borrow.Author.Tests.{lt-ltb, le-ltb, ltb-false, leb-false, not-false}
 use Rattle.bits.specs.Bits.{unpack, count}
-use Rattle.fibonacci.specs.Encoding.{rest, parse, numbers}
+use Rattle.codes.specs.Parse.{rest}
+use Rattle.fibonacci.specs.Encoding.{parse, numbers}
 use Rattle.calls.specs.declared.Refusal.the-variants.{BadOrder, TooManyBytes, NoRoom, BadRest}
 use Rattle.calls.specs.Calls.{Outcome, accepted, refused, check}
 use Rattle.calls.specs.Limits.{isOrder, Order, Legal, maxNumber, maxCount, maxBytes}

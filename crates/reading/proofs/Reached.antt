@@ -6,33 +6,13 @@ use mathlib.Core.Logic.{_⊎_, inl, inr}
 use Prim.Native.Nat.{ℕ, _+_, _≤_, _<_}
 use native.Mathlib.Omega.{arith}
 use lib.ListN.{length, drop, drop-of-length-le}
+use Rattle.codes.specs.Parse.{Parse, parsed, codewords}
+use Rattle.codes.proofs.Parse.{behind, behind-prepend, behind-append, behind-rest, onto, onto-codewords, onto-parsed, onto-append}
+use Rattle.codes.proofs.Codes as codes
 use Rattle.fibonacci.specs.Code.{ones, runs, number}
-use Rattle.fibonacci.specs.Encoding.{Parse, parsed, codewords, IsParse, push, prepend, parse, numbers}
+use Rattle.fibonacci.specs.Encoding.{IsParse, parse, numbers}
 use Rattle.fibonacci.proofs.Runs.{runs-ones, runs-cut}
-use Rattle.fibonacci.proofs.Parse.{push-prepend, onto, onto-codewords, onto-parsed, parse-is, parse-flatten, parse-rest, parse-only}
-
--- ## Bits in front of a parse
-
--- in front of the first codeword, or of the rest where there is none
-abbrev behind : List Bool → Parse → Parse
-behind [] s = s
-behind (a ∷ x) s = push a (behind x s)
-
-behind-prepend : (x w : List Bool) (s : Parse) → behind x (prepend w s) ≡ prepend (x ++ w) s
-behind-prepend [] w s = refl
-behind-prepend (a ∷ x) w s = ap (push a) (behind-prepend x w s) ∙ push-prepend a (x ++ w) s
-
-behind-append : (x y : List Bool) (s : Parse) → behind (x ++ y) s ≡ behind x (behind y s)
-behind-append [] y s = refl
-behind-append (a ∷ x) y s = ap (push a) (behind-append x y s)
-
-behind-rest : (x r : List Bool) → behind x (parsed [] r) ≡ parsed [] (x ++ r)
-behind-rest [] r = refl
-behind-rest (a ∷ x) r = ap (push a) (behind-rest x r)
-
-onto-append : (vs ws : List (List Bool)) (s : Parse) → onto vs (onto ws s) ≡ onto (vs ++ ws) s
-onto-append [] ws s = refl
-onto-append (v ∷ vs) ws s = ap (prepend v) (onto-append vs ws s)
+use Rattle.fibonacci.proofs.Parse.{parse-is, parse-rest, is-code, parse-only}
 
 -- ## What ones to come cannot join
 
@@ -46,7 +26,7 @@ settled-runs m q t h (inl e) = rw e (omega arith)
 settled-runs m q t h (inr (p, e)) = rw e (omega (arith, ap (runs m) (append-assoc p (false ∷ []) t), runs-cut m p t h, runs-cut m p [] h))
 
 -- such bits, without m ones in a row, only make the first codeword longer
-settled-is : (m : ℕ) (q b : List Bool) (s : Parse) → 1 ≤ m → Settled q → runs m q ≡ 0 → IsParse m b s → IsParse m (q ++ b) (behind q s)
+settled-is : (m : ℕ) (q b : List Bool) (s : Parse Bool) → 1 ≤ m → Settled q → runs m q ≡ 0 → IsParse m b s → IsParse m (q ++ b) (behind q s)
 unfolding flatten
 settled-is m q b (parsed [] r) h z f i =
     rw (behind-rest q r) (record { joined = ap (λ (t : List Bool). q ++ t) (i .joined); coded = tt; free = omega (arith, settled-runs m q r h z, i .free) })
@@ -71,9 +51,7 @@ parse-settled m q t h z f = sym (parse-only m (q ++ t) (behind q (parse m t)) h 
 
 -- the parse of bits with more after them goes on from its rest
 parse-more : (m : ℕ) (b t : List Bool) (ws : List (List Bool)) (r : List Bool) → 1 ≤ m → parse m b ≡ parsed ws r → parse m (b ++ t) ≡ onto ws (parse m (r ++ t))
-parse-more m b t ws r h e =
-    let i : IsParse m b (parsed ws r) = subst (IsParse m b) e (parse-is m b h) in
-    ap (λ (x : List Bool). parse m (x ++ t)) (sym (i .joined)) ∙ ap (parse m) (append-assoc (flatten ws) r t) ∙ parse-flatten m ws (r ++ t) h (i .coded)
+parse-more m b t ws r h e = codes.parse-more (is-code m h) b t ws r (subst (IsParse m b) e (parse-is m b h))
 
 -- ## How far a scan has come
 
@@ -91,7 +69,7 @@ reached-end m b k words body run h r =
     r .left
     ∙ ap (λ (t : List Bool). onto words (behind body (parse m t)))
     (ap (λ (t : List Bool). ones run ++ t) (drop-of-length-le b h) ∙ append-nil (ones run))
-    ∙ ap (λ (s : Parse). onto words (behind body s)) (parse-rest m (ones run) (omega (arith, r .few)) (runs-ones m run (r .few)))
+    ∙ ap (λ (s : Parse Bool). onto words (behind body s)) (parse-rest m (ones run) (omega (arith, r .few)) (runs-ones m run (r .few)))
     ∙ ap (onto words) (behind-rest body (ones run)) ∙ onto-parsed words (body ++ ones run)
 
 -- the numbers of the codewords that have ended come first
@@ -99,9 +77,9 @@ pub reached-numbers : {m : ℕ} {b : List Bool} {k : ℕ} {words : List (List Bo
     → (later : List ℕ) × (numbers m b ≡ map (number m) words ++ later)
 unfolding numbers
 reached-numbers {m} {b} {k} {words} {body} {run} r =
-    let left : Parse = behind body (parse m (ones run ++ drop k b)) in (
+    let left : Parse Bool = behind body (parse m (ones run ++ drop k b)) in (
       map (number m) (codewords left),
-      ap (λ (s : Parse). map (number m) (codewords s)) (r .left)
+      ap (λ (s : Parse Bool). map (number m) (codewords s)) (r .left)
           ∙ ap (map (number m)) (onto-codewords words left) ∙ map-append (number m) words (codewords left),
     )
 
@@ -114,7 +92,7 @@ module _ {m : ℕ} {b : List Bool} {k : ℕ} {words : List (List Bool)} {body : 
   carried ws e =
       let h : 1 ≤ m = omega arith in
       let free : runs m (q ++ ones run') ≡ 0 = subst (IsParse m (ones run ++ x)) e (parse-is m (ones run ++ x) h) .free in
-      r .left ∙ ap (λ (s : Parse). onto words (behind body s))
+      r .left ∙ ap (λ (s : Parse Bool). onto words (behind body s))
       (ap (λ (t : List Bool). parse m (ones run ++ t)) next ∙ ap (parse m) (sym (append-assoc (ones run) x (drop n b)))
       ∙ parse-more m (ones run ++ x) (drop n b) ws (q ++ ones run') h e
       ∙ ap (λ (t : List Bool). onto ws (parse m t)) (append-assoc q (ones run') (drop n b))
@@ -129,7 +107,7 @@ module _ {m : ℕ} {b : List Bool} {k : ℕ} {words : List (List Bool)} {body : 
   pub reached-shut : (w : List Bool) (ws : List (List Bool)) → parse m (ones run ++ x) ≡ parsed (w ∷ ws) (q ++ ones run')
       → Reached m b n (words ++ ((body ++ w) ∷ ws)) q run'
   reached-shut w ws e =
-      let later : Parse = behind q (parse m (ones run' ++ drop n b)) in
+      let later : Parse Bool = behind q (parse m (ones run' ++ drop n b)) in
       record {
         left = carried (w ∷ ws) e ∙ ap (onto words) (behind-prepend body w (onto ws later)) ∙ onto-append words ((body ++ w) ∷ ws) later;
         few = few';

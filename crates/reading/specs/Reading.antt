@@ -6,7 +6,8 @@ use Prim.Native.Nat.{ℕ}
 use lib.Dec.{leb}
 use lib.ListN.{length}
 use Rattle.bits.specs.Bits.{unpack, count}
-use Rattle.fibonacci.specs.Encoding.{rest, parse, numbers}
+use Rattle.codes.specs.Parse.{rest}
+use Rattle.fibonacci.specs.Encoding.{parse, numbers}
 use Rattle.calls.specs.declared.Refusal.the-variants.{BadOrder, BadRest}
 use Rattle.calls.specs.declared.CountAnswer.{CountAnswer}
 use Rattle.calls.specs.Calls.{Outcome, check, andThen, buffer, countOutcome}

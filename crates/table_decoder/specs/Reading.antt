@@ -6,7 +6,8 @@ use Prim.Native.Nat.{ℕ, _*_, _/_, _%_}
 use lib.Dec.{ltb}
 use lib.ListN.{length}
 use Rattle.bits.specs.Bits.{unpack}
-use Rattle.fibonacci.specs.Encoding.{rest, parse, numbers}
+use Rattle.codes.specs.Parse.{rest}
+use Rattle.fibonacci.specs.Encoding.{parse, numbers}
 use Rattle.calls.specs.declared.Refusal.the-variants.{TooManyBytes, NoRoom, BadRest}
 use Rattle.calls.specs.declared.CountAnswer.{CountAnswer}
 use Rattle.calls.specs.Calls.{Outcome, accepted, check, andThen, buffer, countOutcome}

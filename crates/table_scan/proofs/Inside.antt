@@ -6,15 +6,15 @@ use Prim.Native.Nat.{ℕ, suc, _+_, _≤_}
 use native.Mathlib.Omega.{arith}
 use lib.ListN.{length, getD, take, drop, length-append, length-take}
 use lib.Seq.{sets, sets-eq, take-append-le, take-append-add}
-use Rattle.fibonacci.specs.Encoding.{Parse, parsed, codewords, rest}
+use Rattle.codes.specs.Parse.{Parse, parsed, codewords, rest}
 
 -- ## Parses with and without a codeword
 
-pub open-parse : (p : Parse) → length (codewords p) ≡ 0 → p ≡ parsed [] (rest p)
+pub open-parse : (p : Parse Bool) → length (codewords p) ≡ 0 → p ≡ parsed [] (rest p)
 open-parse (parsed [] r) e = refl
 open-parse (parsed (w ∷ ws) r) e = absurd (omega arith)
 
-pub shut-parse : (p : Parse) → (length (codewords p) ≡ 0 → ⊥) → (w : List Bool) × (ws : List (List Bool)) × (p ≡ parsed (w ∷ ws) (rest p))
+pub shut-parse : (p : Parse Bool) → (length (codewords p) ≡ 0 → ⊥) → (w : List Bool) × (ws : List (List Bool)) × (p ≡ parsed (w ∷ ws) (rest p))
 shut-parse (parsed [] r) e = absurd (e refl)
 shut-parse (parsed (w ∷ ws) r) e = (w, ws, refl)
 

@@ -14,7 +14,8 @@ use Rattle.calls.specs.Limits.{isNumber, Legal, maxCount}
 use Rattle.calls.specs.Reading.{contents}
 use Rattle.calls.proofs.Checks.{is-number}
 use Rattle.calls.proofs.Finished.{illegal-above}
-use Rattle.fibonacci.specs.Encoding.{Positive, numbers}
+use Rattle.codes.specs.Rows.{Positive}
+use Rattle.fibonacci.specs.Encoding.{numbers}
 use Rattle.reading.specs.Reading.{fibonacci}
 use Rattle.reading.proofs.Checking.{contents-many, contents-large, contents-past}
 use Rattle.table_scan.specs.Leaves.{Passes, faultAt}

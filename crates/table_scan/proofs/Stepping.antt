@@ -11,8 +11,9 @@ use lib.Seq.{drop-cons, take-at}
 use borrow.Author.Tests.{leb-false}
 use Rattle.bits.specs.Bits.{wordBits, unpack}
 use Rattle.bits.proofs.Bytes.{unpack-drop}
+use Rattle.codes.specs.Parse.{parsed}
 use Rattle.fibonacci.specs.Code.{past, F, ones, runs, value, first, number}
-use Rattle.fibonacci.specs.Encoding.{parsed, IsParse, parse}
+use Rattle.fibonacci.specs.Encoding.{IsParse, parse}
 use Rattle.calls.specs.Limits.{maxNumber}
 use Rattle.fibonacci.proofs.Runs.{few-ones}
 use Rattle.fibonacci.proofs.Parse.{parse-is}

@@ -12,8 +12,10 @@ use lib.Seq.{sets, length-sets}
 use Rattle.lists.proofs.Each.{all-append}
 use Rattle.bits.specs.Bits.{wordBits, unpack}
 use Rattle.bits.proofs.Bytes.{unpack-length}
+use Rattle.codes.specs.Rows.{Positive}
+use Rattle.codes.specs.Parse.{Parse, parsed, rest}
 use Rattle.fibonacci.specs.Code.{ones, first, number}
-use Rattle.fibonacci.specs.Encoding.{Positive, Parse, parsed, rest, parse, numbers}
+use Rattle.fibonacci.specs.Encoding.{parse, numbers}
 use Rattle.calls.specs.declared.Refusal.the-variants.{TooManyCodewords, BadRest}
 use Rattle.calls.specs.Calls.{accepted, refused}
 use Rattle.calls.specs.Limits.{isNumber, Legal, maxNumber, maxCount}
@@ -92,7 +94,7 @@ module _ {limit : ℕ} {s : List ℕ} {i : ℕ} {row : List ℕ} {count len val 
     x : List Bool
     x = wordBits 8 (getD s i 0)
 
-    p : Parse
+    p : Parse Bool
     p = parseByte (k .run) (getD s i 0)
 
     p-is : p ≡ parse 3 (ones (k .run) ++ x)

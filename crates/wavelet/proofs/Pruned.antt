@@ -11,8 +11,9 @@ use borrow.Author.Tests.{le-leb, leb-true}
 use Rattle.lists.specs.Lists.{valuesFrom, filter}
 use Rattle.lists.proofs.Filter.{filter-pass, filter-fail}
 use Rattle.bits.specs.Bits.{sameBit}
+use Rattle.codes.specs.Parse.{Parse, parsed}
 use Rattle.fibonacci.specs.Code.{F, ones, runs, Codeword, value, first, number, codeword}
-use Rattle.fibonacci.specs.Encoding.{Parse, parsed, IsParse, rowBits, parse}
+use Rattle.fibonacci.specs.Encoding.{IsParse, rowBits, parse}
 use Rattle.calls.proofs.Checks.{both}
 use Rattle.fibonacci.proofs.Runs.{runs-all}
 use Rattle.fibonacci.proofs.Numeration.{F-pos}
@@ -90,7 +91,7 @@ pub runs-before : (m : ℕ) (q : List Bool) (a : Bool) (t : List Bool) → 1 ≤
 unfolding flatten
 runs-before m q a t p c = go (parse m q) (parse-is m q p)
   where
-    go : (s : Parse) → IsParse m q s → runs m q ≡ 0
+    go : (s : Parse Bool) → IsParse m q s → runs m q ≡ 0
     go (parsed [] r) i = ap (runs m) (sym (i .joined)) ∙ i .free
     go (parsed (v ∷ ws) r) i =
         let x : List Bool = flatten ws ++ r in

@@ -13,9 +13,9 @@ use Rattle.lists.proofs.Filter.{all-filter, filter-pass, filter-fail, filter-wi
 use Rattle.lists.proofs.Lists.{sets-append}
 use Rattle.bits.specs.Bits.{unpack, count}
 use Rattle.bits.proofs.Count.{count-le}
+use Rattle.codes.specs.Rows.{Positive}
 use Rattle.fibonacci.specs.Code.{first, codeword}
 use Rattle.calls.specs.Limits.{Order}
-use Rattle.fibonacci.specs.Encoding.{Positive}
 use Rattle.wavelet.specs.Nodes.{isPrefix, Tree, prune, tree, nodes}
 use Rattle.wavelet.specs.Bitmaps.{bitmap, joined, bitmaps}
 use Rattle.wavelet.specs.Questions.{maxAlphabet}

@@ -7,8 +7,8 @@ use lib.ListN.{length}
 use lib.Seq.{sets}
 use Rattle.lists.specs.Lists.{filter}
 use Rattle.bits.specs.Bits.{bitOf, unpack, count}
+use Rattle.codes.specs.Rows.{Positive}
 use Rattle.fibonacci.specs.Code.{codeword}
-use Rattle.fibonacci.specs.Encoding.{Positive}
 use Rattle.fibonacci.specs.Leaves.{Positions}
 use Rattle.wavelet.specs.Nodes.{isPrefix, prune}
 use Rattle.wavelet.specs.Bitmaps.{joined, bitmaps}

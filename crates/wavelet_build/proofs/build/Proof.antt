@@ -8,7 +8,7 @@ use Rattle.calls.proofs.Checks.{positive, each-accepted}
 use Rattle.calls.specs.declared.Refusal.the-variants.{OutsideAlphabet}
 use Rattle.calls.specs.Calls.{accepted, countOutcome}
 use Rattle.calls.specs.Limits.{Legal}
-use Rattle.fibonacci.specs.Encoding.{Positive}
+use Rattle.codes.specs.Rows.{Positive}
 use Rattle.wavelet.specs.Bitmaps.{bitmaps}
 use Rattle.wavelet.specs.Leaves.{Passed, maxIndexBytes}
 use Rattle.wavelet.proofs.Answering.{tree-passed, legal-order, legal-alphabet}
