@@ -1,2 +1,3 @@
 pub mod Checks
 pub mod Finished
+pub mod Decoding

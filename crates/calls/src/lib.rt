@@ -1,8 +1,10 @@
-// What every call says: why it refuses, how many there are of something, and the limits that it checks.
+// What every call says: why it refuses, how many there are of something, and the limits that it checks; and how every reader answers.
 ghost use mathlib.Core.Path.{_≡_};
 ghost use Prim.Native.Nat.{min};
+ghost use lib.ListN.{length};
 ghost use Rattle.calls.specs.Refusals.{reason};
 ghost use Rattle.calls.specs.Limits.{isOrder, isNumber};
+ghost use Rattle.calls.specs.Leaves.{Holds, Delivers};
 
 // Why a call refuses: a case for each meaning, of which several may have the same number in the papers.
 pub enum Refusal {
@@ -148,4 +150,19 @@ pub fn wide(x: u32) -> u64
     ensures { λ r. ⌜ r ≡ x ⌝ }
 {
     x as u64
+}
+
+// What a reader answers once it has scanned an encoding: the row goes from the list that the scan stored it in to the output. Requires: a list with as many
+// elements as were counted, which the readers show: the scan has stored the row there.
+pub fn deliver(scanned: CountAnswer, row: &[u32], out: &mut [u32]) -> CountAnswer
+    requires { ⌜ Holds scanned (length (now row)) ⌝ }
+    ensures { λ r. ⌜ Delivers scanned (now (row .entry)) (now (out .entry)) r (now (out .exit)) ⌝ }
+{
+    if let CountAnswer::Count(count) = scanned {
+        if out.len() < count {
+            return CountAnswer::Refused(Refusal::NoRoom);
+        }
+        lists::copy(out, row, count);
+    }
+    scanned
 }

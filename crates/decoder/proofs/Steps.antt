@@ -25,7 +25,8 @@ use Rattle.calls.specs.Reading.{contents}
 use Rattle.calls.proofs.Checks.{number-is, positive}
 use Rattle.reading.specs.Reading.{fibonacci}
 use Rattle.reading.specs.Leaves.{NumberOf, isPadding}
-use Rattle.reading.proofs.Checking.{padding-is, padding-not, contents-many, contents-large, contents-rest, contents-good, numbered-legal, numbered-large}
+use Rattle.calls.proofs.Decoding.{contents-many, contents-large}
+use Rattle.reading.proofs.Checking.{padding-is, padding-not, contents-rest, contents-good, numbered-legal, numbered-large}
 use Rattle.word_decoder.specs.Leaves.{DecodedPrefix, Taken}
 use Rattle.word_decoder.proofs.Taking.{taken-more}
 use Rattle.word_decoder.proofs.Spans.{decoded-end}
@@ -76,7 +77,7 @@ module _ (s : List ℕ) {m limit bit count : ℕ} {row : List ℕ} {r : Next} (o
         (ap (numbers m) (cut ∙ ap (λ (c : List Bool). c ++ behind) (sym (alone ∙ own .0))) ∙ bits-numbers m (x ∷ []) behind pos (own .1, tt))
 
     pub step-many : count ≡ maxCount → contents (fibonacci m) limit s ≡ refused TooManyCodewords
-    step-many c = contents-many limit m s row (g .taken .legal) x (numbers m behind) go-on (g .many ∙ c)
+    step-many c = contents-many (fibonacci m) limit s row (g .taken .legal) x (numbers m behind) go-on (g .many ∙ c)
 
     -- n was found for its number
     module _ (n : ℕ) (is : NumberOf m (r .len) (r .val) n) (top : limit ≤ maxNumber) (less : count ≡ maxCount → ⊥) where
@@ -88,7 +89,7 @@ module _ (s : List ℕ) {m limit bit count : ℕ} {row : List ℕ} {r : Next} (o
 
       pub step-large : isNumber limit n ≡ false → contents (fibonacci m) limit s ≡ refused (TooLarge count)
       step-large l =
-          contents-large limit m s row (g .taken .legal) x (numbers m behind) go-on (omega (arith, g .many, g .most))
+          contents-large (fibonacci m) limit s row (g .taken .legal) x (numbers m behind) go-on (omega (arith, g .many, g .most))
           (numbered-large m (r .len) (r .val) n is x near far limit top l) ∙ ap (λ (k : ℕ). refused (TooLarge k)) (g .many)
 
       pub step-number : isNumber limit n ≡ true → (count < maxCount) × DecodedPrefix m limit b (r .bit) (count + 1) (row ++ (n ∷ []))

@@ -7,10 +7,10 @@ ghost use Rattle.bits.specs.Bits.{unpack};
 ghost use Rattle.calls.specs.Calls.{accepted, andThen};
 ghost use Rattle.calls.specs.Limits.{Order, maxNumber, maxCount, maxBytes};
 ghost use Rattle.calls.specs.Reading.{decode};
+ghost use Rattle.calls.specs.Leaves.{Scanned};
 ghost use Rattle.fibonacci.specs.Leaves.{Firsts};
 ghost use Rattle.word_decoder.specs.Leaves.{Spanned, StoredRow};
 ghost use Rattle.reading.specs.Reading.{fibonacci, ReadPromise};
-ghost use Rattle.reading.specs.Leaves.{Scanned};
 ghost use Rattle.decoder.specs.Leaves.{summary, spanOutcome, Leads};
 
 // From this many bytes on, words are faster than bits, in spite of the table that they need.
@@ -194,9 +194,9 @@ pub fn read(order: usize, s: &[u8], out: &mut [u32]) -> calls::CountAnswer
     if s.len() <= 16 {
         let mut few: [u32; 64] = [0; 64];
         let scanned = store_row(order, s, calls::MAX_NUMBER, &mut few);
-        return reading::deliver(scanned, &few, out);
+        return calls::deliver(scanned, &few, out);
     }
     let mut row: [u32; calls::MAX_COUNT] = [0; calls::MAX_COUNT];
     let scanned = store_row(order, s, calls::MAX_NUMBER, &mut row);
-    reading::deliver(scanned, &row, out)
+    calls::deliver(scanned, &row, out)
 }

@@ -14,7 +14,7 @@ use Rattle.calls.specs.declared.Refusal.the-variants.{NoRoom}
 use Rattle.calls.specs.Calls.{accepted, check}
 use Rattle.calls.specs.Limits.{maxNumber}
 use Rattle.calls.specs.Reading.{decode}
-use Rattle.calls.proofs.Checks.{is-order, then-same}
+use Rattle.calls.proofs.Checks.{then-same}
 use Rattle.reading.specs.Reading.{fibonacci, read, readInto}
 use Rattle.reading.proofs.Decoding.{decode-is, read-is, read-row}
 use Rattle.table_decoder.specs.Reading.{readTable, readTableInto, rowBytes, readBytes, readBytesInto}
@@ -29,7 +29,7 @@ read-parse m s before n e =
     let row = i .1 .0 in
     let same : row ≡ numbers m (unpack s) = decode-is m maxNumber s row (i .1 .1) .is in (
       i .1 .2 ∙ ap length same,
-      sym (read-row m s before (is-order m (i .0)) row (i .1 .1) (i .1 .3) .1) ∙ ap₂ (λ (r : List ℕ) (k : ℕ). r ++ drop k before) same (sym (i .1 .2)),
+      read-row m s before (i .0) row (i .1 .1) (i .1 .3) .1 ∙ ap₂ (λ (r : List ℕ) (k : ℕ). r ++ drop k before) same (sym (i .1 .2)),
     )
 
 table-parse : ReturnsParse 3 readTable readTableInto

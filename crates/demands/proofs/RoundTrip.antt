@@ -18,7 +18,9 @@ use Rattle.calls.specs.Limits.{Order, isNumber, Legal, maxNumber, maxCount}
 use Rattle.calls.specs.Reading.{decode}
 use Rattle.fibonacci.proofs.Rows.{bits-append, numbers-bits, encoding-parse, encoding-read, bits-few}
 use Rattle.reading.specs.Reading.{fibonacci, read, readInto}
-use Rattle.reading.proofs.Decoding.{decode-is, decode-accepts, read-is, read-row}
+use Rattle.calls.proofs.Decoding.{decode-accepts}
+use Rattle.reading.proofs.Checking.{rest-good}
+use Rattle.reading.proofs.Decoding.{decode-is, decoded-rest, read-is, read-row}
 use Rattle.encoder.specs.Writing.{write, writeInto}
 use Rattle.encoder.proofs.Writing.{Writable, write-is, write-accepts}
 use Rattle.appender.specs.Appending.{append, appendInto}
@@ -32,14 +34,15 @@ unfolding encoding
 decode-encoding m row o c a =
     let parse-is = encoding-parse m row (omega arith) (positive maxNumber row a) in
     let rest-is : rest (parse m (unpack (encoding m row))) ≡ replicate (padding (length (rowBits m row))) false = ap rest parse-is in
-    decode-accepts m maxNumber (encoding m row) row
+    decode-accepts (fibonacci m) maxNumber (encoding m row) row
     (record {
       bytes = omega (arith, pack-length (rowBits m row), bits-few m row o a);
       is = sym (encoding-read m row (omega arith) (positive maxNumber row a));
       legal = a;
       long = c;
-      short = rw rest-is (omega (arith, length-replicate (padding (length (rowBits m row))) false, padding-below (length (rowBits m row))));
-      zeros = rw rest-is (zeros-none (padding (length (rowBits m row))));
+      finished =
+          rw rest-is
+          (rest-good (replicate (padding (length (rowBits m row))) false) (omega (arith, length-replicate (padding (length (rowBits m row))) false, padding-below (length (rowBits m row)))) (zeros-none (padding (length (rowBits m row)))));
     })
 
 -- ## Writing what was read
@@ -48,12 +51,13 @@ pub decoded-encoding : (m : ℕ) (s row : List ℕ) → Order m → Bytes s → 
 unfolding encoding padding
 decoded-encoding m s row o b e =
     let d = decode-is m maxNumber s row e in
+    let padded = decoded-rest m maxNumber s row d in
     let r : List Bool = rest (parse m (unpack s)) in
     let whole : rowBits m row ++ r ≡ unpack s = rw (d .is) (numbers-bits m (unpack s) (omega (arith, o))) in
     let fill : length r ≡ padding (length (rowBits m row)) =
-    omega (arith, d .short, ap length whole, length-append (rowBits m row) r, unpack-length s) in
+    omega (arith, padded .0, ap length whole, length-append (rowBits m row) r, unpack-length s) in
     unpack-apart s (encoding m row) b (pack-bytes (rowBits m row))
-    (sym whole ∙ ap (λ (l : List Bool). rowBits m row ++ l) (none-zeros r (d .zeros) ∙ ap (λ (k : ℕ). replicate k false) fill) ∙ sym (unpack-pack (rowBits m row)))
+    (sym whole ∙ ap (λ (l : List Bool). rowBits m row ++ l) (none-zeros r (padded .1) ∙ ap (λ (k : ℕ). replicate k false) fill) ∙ sym (unpack-pack (rowBits m row)))
 
 -- ## Appending
 
@@ -146,8 +150,8 @@ written-read m row before out bytes bits e l =
     let w = i .0 in
     let s : take bytes (writeInto m row before) ≡ encoding m row =
     ap₂ take (i .1) (write-into m row before w) ∙ take-append-seam (encoding m row) _ in
-    let r = read-row m (encoding m row) out (is-order m (w .order)) row (decode-encoding m row (w .order) (w .count) (w .legal)) l in
-    rw s (sym (r .0), sym (r .1))
+    let r = read-row m (encoding m row) out (w .order) row (decode-encoding m row (w .order) (w .count) (w .legal)) l in
+    rw s r
 
 decoded-written : (m : ℕ) (s row before : List ℕ) → Order m → Bytes s → decode (fibonacci m) maxNumber s ≡ accepted row → length s ≤ length before
     → (write m row (length before) ≡ accepted (length s, length (rowBits m row))) × (writeInto m row before ≡ s ++ drop (length s) before)
@@ -165,7 +169,7 @@ read-written m s out before n b e l =
     let i = read-is m s (length out) n e in
     let row = i .1 .0 in
     let back : take n (readInto m s out) ≡ row =
-    ap₂ take (i .1 .2) (sym (read-row m s out (is-order m (i .0)) row (i .1 .1) (i .1 .3) .1)) ∙ take-append-seam row _ in
+    ap₂ take (i .1 .2) (read-row m s out (i .0) row (i .1 .1) (i .1 .3) .1) ∙ take-append-seam row _ in
     rw back (decoded-written m s row before (i .0) b (i .1 .1) l)
 
 appended-written : (m : ℕ) (row before : List ℕ) (bytes bits : ℕ) → write m row (length before) ≡ accepted (bytes, bits)

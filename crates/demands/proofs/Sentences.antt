@@ -21,8 +21,7 @@ use Rattle.calls.specs.Reading.{checkFinished, contents, decode}
 use Rattle.fibonacci.proofs.Rows.{encoding-read}
 use Rattle.fibonacci.proofs.Lookup.{codeword-short}
 use Rattle.reading.specs.Reading.{fibonacci, read, readInto}
-use Rattle.reading.proofs.Checking.{contents-many}
-use Rattle.reading.proofs.Decoding.{decode-contents}
+use Rattle.calls.proofs.Decoding.{decode-contents, contents-many}
 use Rattle.encoder.specs.Writing.{write}
 use Rattle.encoder.proofs.Writing.{write-accepts}
 use Rattle.appender.specs.Appending.{append}
@@ -74,8 +73,8 @@ module _ (m : ℕ) (o : Order m) where
 
   decoded : decode (fibonacci m) maxNumber (encoding m (onesRow (suc maxCount))) ≡ refused TooManyCodewords
   decoded =
-      decode-contents m maxNumber (encoding m (onesRow (suc maxCount))) (omega (arith, ones-bytes m (suc maxCount)))
-      ∙ contents-many maxNumber m (encoding m (onesRow (suc maxCount))) (onesRow maxCount) (ones-legal maxCount) 1 []
+      decode-contents (fibonacci m) maxNumber (encoding m (onesRow (suc maxCount))) (omega (arith, ones-bytes m (suc maxCount)))
+      ∙ contents-many (fibonacci m) maxNumber (encoding m (onesRow (suc maxCount))) (onesRow maxCount) (ones-legal maxCount) 1 []
       (encoding-read m (onesRow (suc maxCount)) (omega arith) (positive maxNumber (onesRow (suc maxCount)) (ones-legal (suc maxCount))) ∙ ones-more maxCount)
       (ones-length maxCount)
 

@@ -12,15 +12,16 @@ use borrow.Author.Tests.{le-leb, lt-leb, lt-ltb, eq-eqb, ltb-true, eqb-true}
 use Rattle.bits.specs.Bits.{unpack, count}
 use Rattle.bits.proofs.Count.{count-append}
 use Rattle.codes.specs.Rows.{Positive}
-use Rattle.codes.specs.Parse.{parsed, codewords}
+use Rattle.codes.specs.Parse.{Parse, parsed, codewords, rest}
 use Rattle.fibonacci.specs.Code.{ones, value, first, number}
 use Rattle.fibonacci.specs.Encoding.{parse, numbers}
-use Rattle.calls.specs.declared.Refusal.the-variants.{TooManyCodewords, TooLarge, BadRest}
+use Rattle.calls.specs.declared.Refusal.the-variants.{BadRest}
 use Rattle.calls.specs.Calls.{accepted, refused, check}
 use Rattle.calls.specs.Limits.{isNumber, Legal, maxNumber, maxCount}
 use Rattle.calls.specs.Reading.{contents}
 use Rattle.calls.proofs.Checks.{both, number-is}
-use Rattle.calls.proofs.Finished.{finished-all, finished-many, finished-large, finished-past, illegal-above}
+use Rattle.calls.proofs.Finished.{illegal-above}
+use Rattle.calls.proofs.Decoding.{contents-end}
 use Rattle.fibonacci.proofs.Numeration.{F-pos}
 use Rattle.fibonacci.proofs.Numbers.{first-pos}
 use Rattle.reading.specs.Reading.{isBadRest, fibonacci}
@@ -90,38 +91,20 @@ rest-bad r (inr c) = rw (le-leb 1 (count true r) c) (or-true (leb 8 (length r)))
 pub rest-good : (r : List Bool) → length r < 8 → count true r ≡ 0 → isBadRest r ≡ false
 rest-good r l c = simp (lt-leb 8 (length r) l, lt-leb 1 (count true r) (omega arith))
 
--- The numbers `done` have passed their checks, and what comes after them decides
-module _ (limit m : ℕ) (s done : List ℕ) (legal : Legal limit done) where
-  abbrev b : List Bool
-  b = unpack s
+-- The numbers `done` have passed their checks, no codeword is left, and the rest decides
+module _ (limit m : ℕ) (s done : List ℕ) (legal : Legal limit done) (words : List (List Bool)) (r : List Bool) (e : parse m (unpack s) ≡ parsed words r)
+    (w : map (number m) words ≡ done) (l : length done ≤ maxCount) where
+  ended : contents (fibonacci m) limit s ≡ check BadRest (isBadRest r) (accepted done)
+  unfolding numbers
+  ended =
+      contents-end (fibonacci m) limit s done legal (ap (λ (p : Parse Bool). map (number m) (codewords p)) e ∙ w) l
+      ∙ ap (λ (p : Parse Bool). check BadRest (isBadRest (rest p)) (accepted done)) e
 
-  pub contents-many : (x : ℕ) (more : List ℕ) → numbers m b ≡ done ++ (x ∷ more) → length done ≡ maxCount
-      → contents (fibonacci m) limit s ≡ refused TooManyCodewords
-  unfolding contents
-  contents-many x more e l = rw e (finished-many limit done legal _ x more l)
+  pub contents-rest : (8 ≤ length r) ⊎ (1 ≤ count true r) → contents (fibonacci m) limit s ≡ refused BadRest
+  contents-rest c = ended ∙ ap (λ (t : Bool). check BadRest t (accepted done)) (rest-bad r c)
 
-  pub contents-large : (x : ℕ) (more : List ℕ) → numbers m b ≡ done ++ (x ∷ more) → length done < maxCount → limit < x
-      → contents (fibonacci m) limit s ≡ refused (TooLarge (length done))
-  unfolding contents
-  contents-large x more e l n = rw e (finished-large limit done legal _ x more l n)
-
-  pub contents-past : (more : List ℕ) → numbers m b ≡ done ++ more → maxCount < length done → contents (fibonacci m) limit s ≡ refused TooManyCodewords
-  unfolding contents
-  contents-past more e l = rw e (finished-past limit 0 done more _ legal (omega arith) (omega arith))
-
-  -- no codeword is left, and the rest decides
-  contents-end : (words : List (List Bool)) (r : List Bool) → parse m b ≡ parsed words r → map (number m) words ≡ done → length done ≤ maxCount
-      → contents (fibonacci m) limit s ≡ check BadRest (isBadRest r) (accepted done)
-  unfolding contents numbers
-  contents-end words r e w l = rw (e, w) (finished-all limit done _ legal l)
-
-  pub contents-rest : (words : List (List Bool)) (r : List Bool) → parse m b ≡ parsed words r → map (number m) words ≡ done → length done ≤ maxCount
-      → (8 ≤ length r) ⊎ (1 ≤ count true r) → contents (fibonacci m) limit s ≡ refused BadRest
-  contents-rest words r e w l c = contents-end words r e w l ∙ ap (λ (t : Bool). check BadRest t (accepted done)) (rest-bad r c)
-
-  pub contents-good : (words : List (List Bool)) (r : List Bool) → parse m b ≡ parsed words r → map (number m) words ≡ done → length done ≤ maxCount
-      → length r < 8 → count true r ≡ 0 → contents (fibonacci m) limit s ≡ accepted done
-  contents-good words r e w l h z = contents-end words r e w l ∙ ap (λ (t : Bool). check BadRest t (accepted done)) (rest-good r h z)
+  pub contents-good : length r < 8 → count true r ≡ 0 → contents (fibonacci m) limit s ≡ accepted done
+  contents-good h z = ended ∙ ap (λ (t : Bool). check BadRest t (accepted done)) (rest-good r h z)
 
 -- ## Numbers of codewords
 

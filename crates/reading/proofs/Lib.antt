@@ -1,4 +1,3 @@
 pub mod Reached
 pub mod Checking
 pub mod Decoding
-pub mod Delivering

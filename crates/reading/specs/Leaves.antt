@@ -1,15 +1,9 @@
--- What the readers of an encoding share: the number of a codeword, the padding, and how the row goes to the output.
+-- What the readers of an encoding share: the number of a codeword, and the padding.
 use mathlib.Core.Path.{_≡_}
 use mathlib.Core.Bool.{Bool, _&&_}
-use mathlib.Core.List.{List}
 use Prim.Native.Nat.{ℕ, _+_, _≤_, _<_}
 use lib.Dec.{ltb, eqb}
-use lib.ListN.{length, take}
 use Rattle.fibonacci.specs.Code.{first}
-use Rattle.calls.specs.declared.Refusal.the-variants.{NoRoom}
-use Rattle.calls.specs.declared.CountAnswer.{CountAnswer}
-use Rattle.calls.specs.declared.CountAnswer.the-variants.{Count, Refused}
-use Rattle.calls.specs.Calls.{Outcome, accepted, refused, answerResults, check, andThen, buffer, countOutcome}
 use Rattle.calls.specs.Limits.{maxNumber}
 
 -- n is the number of a codeword with `len` bits before its last ones, whose value is `val`, as far as a number of that length can be legal; else it is 0
@@ -19,29 +13,3 @@ NumberOf m len val n = (first m len ≤ maxNumber → n ≡ first m len + val) �
 -- Whether what is pending at the end is padding, by its length and value before its trailing ones, and by these
 abbrev pub isPadding : ℕ → ℕ → ℕ → Bool
 isPadding len val run = ltb len 8 && (eqb val 0 && eqb run 0)
-
--- How many numbers the row has that is found
-abbrev pub counting : Outcome (List ℕ) → Outcome ℕ
-counting found = andThen found (λ row. accepted (length row))
-
--- A list of the reader's own after its scan: where the scan accepts, it begins with the row
-abbrev pub Begins : Outcome (List ℕ) → List ℕ → Type 0
-Begins (accepted row) list = take (length row) list ≡ row
-Begins (refused r) list = Unit {0}
-
--- What a scan that finds this answers, and leaves in its list
-abbrev pub Scanned : Outcome (List ℕ) → CountAnswer → List ℕ → Type 0
-Scanned found a list = (countOutcome a ≡ counting found) × Begins found list
-
--- A list has as many elements as were counted
-abbrev pub Holds : CountAnswer → ℕ → Type 0
-Holds (Count n) room = n ≤ room
-Holds (Refused r) room = Unit {0}
-
--- The row goes from there to the output, if that has room: the answer, and the output before and after
-abbrev pub delivered : Outcome ℕ → ℕ → Outcome ℕ
-delivered scanned room = andThen scanned (λ n. check NoRoom (ltb room n) (accepted n))
-
-abbrev pub Delivers : CountAnswer → List ℕ → List ℕ → CountAnswer → List ℕ → Type 0
-Delivers scanned list before a after =
-    (countOutcome a ≡ delivered (countOutcome scanned) (length before)) × (after ≡ buffer (countOutcome a) (take (answerResults 0 (countOutcome a)) list) before)

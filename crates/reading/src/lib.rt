@@ -1,9 +1,8 @@
 // What every reader of an encoding shares: the number of a codeword that ends, and the padding.
 ghost use mathlib.Core.Path.{_≡_};
 ghost use Prim.Native.Nat.{_^_, _<_};
-ghost use lib.ListN.{length};
 ghost use Rattle.fibonacci.specs.Leaves.{Firsts};
-ghost use Rattle.reading.specs.Leaves.{NumberOf, isPadding, Holds, Delivers};
+ghost use Rattle.reading.specs.Leaves.{NumberOf, isPadding};
 
 // The number of a codeword by the bits before its last ones and their value; 0 where it is above 4,294,967,295 by its length alone. Requires: the first
 // numbers of an order in use, and a value below 2^63, which the readers show: each bit or byte of an encoding adds little to a value.
@@ -20,19 +19,4 @@ pub fn is_padding(len: usize, val: u64, run: usize) -> bool
     ensures { λ r. ⌜ r ≡ isPadding len val run ⌝ }
 {
     len < 8 && (val == 0 && run == 0)
-}
-
-// What a reader answers once it has scanned an encoding: the row goes from the list that the scan stored it in to the output. Requires: a list with as many
-// elements as were counted, which the readers show: the scan has stored the row there.
-pub fn deliver(scanned: calls::CountAnswer, row: &[u32], out: &mut [u32]) -> calls::CountAnswer
-    requires { ⌜ Holds scanned (length (now row)) ⌝ }
-    ensures { λ r. ⌜ Delivers scanned (now (row .entry)) (now (out .entry)) r (now (out .exit)) ⌝ }
-{
-    if let calls::CountAnswer::Count(count) = scanned {
-        if out.len() < count {
-            return calls::CountAnswer::Refused(calls::Refusal::NoRoom);
-        }
-        lists::copy(out, row, count);
-    }
-    scanned
 }

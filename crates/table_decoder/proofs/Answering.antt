@@ -20,7 +20,7 @@ use Rattle.calls.specs.Limits.{isOrder, maxNumber}
 use Rattle.calls.specs.Reading.{contents, decode}
 use Rattle.calls.proofs.Checks.{told-accepted, told-refused}
 use Rattle.reading.specs.Reading.{fibonacci, read, readInto, ReadPromise}
-use Rattle.reading.specs.Leaves.{Begins, Scanned}
+use Rattle.calls.specs.Leaves.{Begins, Scanned}
 use Rattle.reading.proofs.Decoding.{decode-is}
 use Rattle.table_decoder.specs.Reading.{decodeTable, readTable, readTableInto, ReadTablePromise, numberBytes, rowBytes, readBytes, readBytesInto, ReadBytesPromise}
 

@@ -34,7 +34,7 @@ pub fn read(s: &[u8], out: &mut [u32]) -> CountAnswer
 {
     let mut row: [u32; table_scan::ROOM] = [0; table_scan::ROOM];
     let scanned = scan_into(s, calls::MAX_NUMBER, &mut row);
-    reading::deliver(scanned, &row, out)
+    calls::deliver(scanned, &row, out)
 }
 
 // A number as four bytes from byte i on, the lowest first. Requires: room for them, which `put_row` shows.

@@ -17,7 +17,7 @@ use Rattle.calls.proofs.Finished.{illegal-above}
 use Rattle.codes.specs.Rows.{Positive}
 use Rattle.fibonacci.specs.Encoding.{numbers}
 use Rattle.reading.specs.Reading.{fibonacci}
-use Rattle.reading.proofs.Checking.{contents-many, contents-large, contents-past}
+use Rattle.calls.proofs.Decoding.{contents-many, contents-large, contents-past}
 use Rattle.table_scan.specs.Leaves.{Passes, faultAt}
 
 module _ (limit x : ℕ) (pos : 1 ≤ x) where
@@ -51,11 +51,11 @@ refused-at : (limit : ℕ) (s done : List ℕ) (y : ℕ) (more : List ℕ) → L
     → contents (fibonacci 3) limit s ≡ refused (faultAt (length done))
 refused-at limit s done y more a e bad =
     elim (decLe maxCount (length done)) [
-      | no h ↦ rw (lt-leb maxCount (length done) (omega arith), faultAt) (contents-large limit 3 s done a y more e (omega arith) bad)
+      | no h ↦ rw (lt-leb maxCount (length done) (omega arith), faultAt) (contents-large (fibonacci 3) limit s done a y more e (omega arith) bad)
       | yes h ↦
           rw (le-leb maxCount (length done) h, faultAt) (elim (decLe (length done) maxCount) [
-            | yes l ↦ contents-many limit 3 s done a y more e (omega arith)
-            | no l ↦ contents-past limit 3 s done a (y ∷ more) e (omega arith)
+            | yes l ↦ contents-many (fibonacci 3) limit s done a y more e (omega arith)
+            | no l ↦ contents-past (fibonacci 3) limit s done a (y ∷ more) e (omega arith)
           ])
     ]
 

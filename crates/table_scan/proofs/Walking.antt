@@ -23,10 +23,11 @@ use Rattle.calls.specs.Reading.{contents}
 use Rattle.calls.proofs.Checks.{number-is, above-number}
 use Rattle.byte_table.specs.declared.Row.{Row}
 use Rattle.byte_table.specs.Leaves.{withoutTrailing, trailingOnes, parseByte, finishing, insideNumbers, value0, value1, value2, moved, rowOfParse, rowAt, Small}
+use Rattle.calls.proofs.Decoding.{contents-many, contents-past}
 use Rattle.reading.specs.Reading.{fibonacci}
 use Rattle.reading.specs.Leaves.{NumberOf, isPadding}
 use Rattle.reading.proofs.Reached.{Reached, reached-start, reached-open, reached-shut, reached-numbers, reached-end}
-use Rattle.reading.proofs.Checking.{padding-is, padding-not, contents-many, contents-past, contents-rest, contents-good, number-positive, coded-positive, numbered-legal, numbered-large}
+use Rattle.reading.proofs.Checking.{padding-is, padding-not, contents-rest, contents-good, number-positive, coded-positive, numbered-legal, numbered-large}
 use Rattle.table_scan.specs.Leaves.{Passes, faultAt}
 use Rattle.table_scan.proofs.Refusing.{none, refused-in}
 use Rattle.table_scan.proofs.Inside.{few-are, first-three, taken, open-parse, shut-parse}
@@ -206,7 +207,7 @@ module _ {limit : ℕ} {s : List ℕ} {i : ℕ} {row : List ℕ} {count len val 
       -- it is one too many
       pub walked-many : maxCount ≤ count → contents (fibonacci 3) limit s ≡ refused TooManyCodewords
       walked-many f =
-          contents-many limit 3 s done (k .legal) (number 3 ended) (within ++ all-numbers .0) (all-numbers .1 ∙ append-assoc done (number 3 ended ∷ within) (all-numbers .0))
+          contents-many (fibonacci 3) limit s done (k .legal) (number 3 ended) (within ++ all-numbers .0) (all-numbers .1 ∙ append-assoc done (number 3 ended ∷ within) (all-numbers .0))
           (omega (arith, done-long, k .most))
 
       -- n was found for its number, and of the numbers that end so many pass
@@ -246,7 +247,7 @@ module _ {limit : ℕ} {s : List ℕ} {i : ℕ} {row : List ℕ} {count len val 
 
           -- those inside the byte are too many
           pub walked-past : maxCount < count + r .count → contents (fibonacci 3) limit s ≡ refused TooManyCodewords
-          walked-past f = contents-past limit 3 s (done ++ (number 3 ended ∷ within)) next-legal (all-numbers .0) (all-numbers .1) (omega (arith, next-long))
+          walked-past f = contents-past (fibonacci 3) limit s (done ++ (number 3 ended ∷ within)) next-legal (all-numbers .0) (all-numbers .1) (omega (arith, next-long))
 
           abbrev new : List ℕ
           new = n ∷ r .second ∷ r .third ∷ []

@@ -12,7 +12,7 @@ use Rattle.calls.specs.declared.CountAnswer.{CountAnswer}
 use Rattle.calls.specs.Calls.{Outcome}
 use Rattle.calls.specs.Limits.{maxNumber, maxCount, maxBytes}
 use Rattle.byte_table.specs.Leaves.{headWords, tailWords, positionWords}
-use Rattle.reading.specs.Leaves.{Scanned}
+use Rattle.calls.specs.Leaves.{Scanned}
 
 -- The tables that are handed down
 pub record ByteTables (heads tails positions firsts : List ℕ) : Type 0 where

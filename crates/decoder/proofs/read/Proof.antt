@@ -7,8 +7,8 @@ use Rattle.calls.specs.Limits.{isOrder, maxNumber}
 use Rattle.calls.specs.Reading.{decode}
 use Rattle.calls.proofs.Checks.{order-is}
 use Rattle.reading.specs.Reading.{fibonacci}
-use Rattle.reading.proofs.Decoding.{read-order}
-use Rattle.reading.proofs.Delivering.{holds-row, delivered-read}
+use Rattle.calls.proofs.Decoding.{holds-row}
+use Rattle.reading.proofs.Decoding.{read-order, delivered-read}
 use Rattle.decoder.proofs.read.Statement.{statement}
 use Rattle.decoder.proofs.read.Tie as tie
 

@@ -10,7 +10,8 @@ use borrow.Author.Tests.{ltb-true, ltb-false}
 use Rattle.bits.specs.Bits.{unpack}
 use Rattle.bits.proofs.Bytes.{unpack-length}
 use Rattle.calls.specs.Limits.{maxCount, maxBytes}
-use Rattle.reading.proofs.Decoding.{decode-long, decode-contents}
+use Rattle.calls.proofs.Decoding.{decode-long, decode-contents}
+use Rattle.reading.specs.Reading.{fibonacci}
 use Rattle.word_decoder.specs.Leaves.{DecodedPrefix}
 use Rattle.decoder.specs.Leaves.{Stepped}
 use Rattle.decoder.specs.declared.Step.{Step}
@@ -64,7 +65,7 @@ module _ (c : tie.After-next Inv-loop μ-loop) where
 returns : tie.Need-returns Inv-loop μ-loop
 returns c =
     let a = c .before .before .before .before .args in
-    rw (decode-long (a .order) (a .limit) (a .s .now) (ltb-true _ _ (sym (c .before .too-long .ensures) ∙ c .if1 .taken))) (refl, tt)
+    rw (decode-long (fibonacci (a .order)) (a .limit) (a .s .now) (ltb-true _ _ (sym (c .before .too-long .ensures) ∙ c .if1 .taken))) (refl, tt)
 
 too-long-requires : tie.Need-too-long-requires Inv-loop μ-loop
 too-long-requires c κs = search needs
@@ -122,7 +123,7 @@ returns-2 : tie.Need-returns-2 Inv-loop μ-loop
 returns-2 c =
     let l = c .before .before .before .before in
     let a = start l .args in
-    rw (decode-contents (a .order) (a .limit) (a .s .now) (short (l .before .before .before .before .before .before .before)), led (c .before .before) End (c .enum-told .given .1), l .loop .inv .0 .many) (refl, refl)
+    rw (decode-contents (fibonacci (a .order)) (a .limit) (a .s .now) (short (l .before .before .before .before .before .before .before)), led (c .before .before) End (c .enum-told .given .1), l .loop .inv .0 .many) (refl, refl)
 
 enum-known-next-2 : tie.Need-enum-known-next-2 Inv-loop μ-loop
 enum-known-next-2 c = search needs
@@ -134,7 +135,7 @@ returns-3 : tie.Need-returns-3 Inv-loop μ-loop
 returns-3 c =
     let l = c .before .before .before .before .before in
     let a = start l .args in
-    rw (decode-contents (a .order) (a .limit) (a .s .now) (short (l .before .before .before .before .before .before .before)), led (c .before .before .before) (Refused (c .before .next2 .given .0 .0)) (c .before .next2 .given .1)) (refl, tt)
+    rw (decode-contents (fibonacci (a .order)) (a .limit) (a .s .now) (short (l .before .before .before .before .before .before .before)), led (c .before .before .before) (Refused (c .before .next2 .given .0 .0)) (c .before .next2 .given .1)) (refl, tt)
 
 pub store-row-spec : {M : Type 1} → statement M
 store-row-spec =

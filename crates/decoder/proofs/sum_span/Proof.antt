@@ -13,7 +13,8 @@ use Rattle.bits.proofs.Bytes.{unpack-length}
 use Rattle.fibonacci.specs.Encoding.{rowBits}
 use Rattle.calls.specs.Calls.{accepted}
 use Rattle.calls.specs.Limits.{maxCount, maxBytes}
-use Rattle.reading.proofs.Decoding.{decode-long, decode-contents}
+use Rattle.calls.proofs.Decoding.{decode-long, decode-contents}
+use Rattle.reading.specs.Reading.{fibonacci}
 use Rattle.word_decoder.specs.Leaves.{DecodedPrefix, Spanned}
 use Rattle.word_decoder.specs.declared.SpanProgress.{SpanProgress}
 use Rattle.word_decoder.proofs.Spans.{decoded-end, spanned-most, spanned-more}
@@ -73,7 +74,7 @@ told {m} {limit} {from} {to} {b} {f} g =
     let s : f .start ≡ length (rowBits m (take from (g .row))) = g .starts in cc
 
 returns : tie.Need-returns Inv-loop μ-loop
-returns c = let a = c .before .before .before .args in rw (decode-long (a .order) (a .limit) (a .s .now) (ltb-true _ _ (sym (c .before .too-long .ensures) ∙ c .if1 .taken))) refl
+returns c = let a = c .before .before .before .args in rw (decode-long (fibonacci (a .order)) (a .limit) (a .s .now) (ltb-true _ _ (sym (c .before .too-long .ensures) ∙ c .if1 .taken))) refl
 
 too-long-requires : tie.Need-too-long-requires Inv-loop μ-loop
 too-long-requires c κs = search needs
@@ -128,7 +129,7 @@ returns-2 : tie.Need-returns-2 Inv-loop μ-loop
 returns-2 c =
     let l = c .before .before .before .before in
     let a = start l .args in
-    rw (decode-contents (a .order) (a .limit) (a .s .now) (short (l .before .before .before .before)), led (c .before .before) End (c .enum-told .given .1)) (told (l .loop .inv))
+    rw (decode-contents (fibonacci (a .order)) (a .limit) (a .s .now) (short (l .before .before .before .before)), led (c .before .before) End (c .enum-told .given .1)) (told (l .loop .inv))
 
 enum-known-next-2 : tie.Need-enum-known-next-2 Inv-loop μ-loop
 enum-known-next-2 c = search needs
@@ -137,7 +138,7 @@ returns-3 : tie.Need-returns-3 Inv-loop μ-loop
 returns-3 c =
     let l = c .before .before .before .before .before in
     let a = start l .args in
-    rw (decode-contents (a .order) (a .limit) (a .s .now) (short (l .before .before .before .before)), led (c .before .before .before) (Refused (c .before .next2 .given .0 .0)) (c .before .next2 .given .1)) refl
+    rw (decode-contents (fibonacci (a .order)) (a .limit) (a .s .now) (short (l .before .before .before .before)), led (c .before .before .before) (Refused (c .before .next2 .given .0 .0)) (c .before .next2 .given .1)) refl
 
 pub sum-span-spec : {M : Type 1} → statement M
 sum-span-spec =

@@ -1,7 +1,8 @@
 use Rattle.calls.specs.Limits.{maxNumber}
 use Rattle.calls.specs.Reading.{decode}
 use Rattle.reading.specs.Reading.{fibonacci}
-use Rattle.reading.proofs.Delivering.{holds-row, delivered-read}
+use Rattle.calls.proofs.Decoding.{holds-row}
+use Rattle.reading.proofs.Decoding.{delivered-read}
 use Rattle.table_decoder.proofs.Answering.{order-3, table-promise}
 use borrow.Author.Needs.{needs}
 use Rattle.table_decoder.proofs.read.Statement.{statement}

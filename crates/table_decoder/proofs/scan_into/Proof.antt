@@ -1,6 +1,7 @@
 use mathlib.Core.Path.{refl}
 use native.Mathlib.Omega.{arith}
-use Rattle.reading.proofs.Decoding.{decode-long, decode-contents}
+use Rattle.calls.proofs.Decoding.{decode-long, decode-contents}
+use Rattle.reading.specs.Reading.{fibonacci}
 use borrow.Author.Needs.{needs}
 use Rattle.table_decoder.proofs.scan_into.Statement.{statement}
 use Rattle.table_decoder.proofs.scan_into.Tie as tie
@@ -8,7 +9,7 @@ use Rattle.table_decoder.proofs.scan_into.Tie as tie
 returns : tie.Need-returns
 returns c =
     let z = c .before .before in
-    rw (decode-long 3 (z .args .limit) (z .args .s .now) (omega arith)) ((refl, tt), z .pre .1)
+    rw (decode-long (fibonacci 3) (z .args .limit) (z .args .s .now) (omega arith)) ((refl, tt), z .pre .1)
 
 heads-requires : tie.Need-heads-requires
 heads-requires c κs = search needs
@@ -28,7 +29,7 @@ walk-requires c κs = search needs
 returns-2 : tie.Need-returns-2
 returns-2 c =
     let e = c .before .before .before .before .before .before .before .before .before .before in
-    rw (decode-contents 3 (e .before .before .args .limit) (e .before .before .args .s .now) (omega (arith, e .if1 .left))) (c .walk .ensures)
+    rw (decode-contents (fibonacci 3) (e .before .before .args .limit) (e .before .before .args .s .now) (omega (arith, e .if1 .left))) (c .walk .ensures)
 
 pub scan-into-spec : {M : Type 1} → statement M
 scan-into-spec =

@@ -5,10 +5,10 @@ use borrow.Author.Needs.{needs}
 use borrow.Author.Tests.{lt-ltb, le-ltb}
 use lib.ListN.{length, take, drop}
 use lib.Seq.{length-take-le}
 use Rattle.calls.specs.declared.CountAnswer.{CountAnswer}
-use Rattle.reading.specs.Leaves.{Holds}
-use Rattle.reading.proofs.deliver.Statement.{statement}
-use Rattle.reading.proofs.deliver.Tie as tie
+use Rattle.calls.specs.Leaves.{Holds}
+use Rattle.calls.proofs.deliver.Statement.{statement}
+use Rattle.calls.proofs.deliver.Tie as tie
 
 enum-known-scanned : tie.Need-enum-known-scanned
 enum-known-scanned c = search needs
