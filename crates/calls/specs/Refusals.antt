@@ -1,7 +1,7 @@
 -- The refusals' numbers and places (paper 01, "When a call says no"; paper 02, "Checks"). The place is 0 where the papers name none.
 use Prim.Native.Nat.{ℕ}
 use Rattle.calls.specs.declared.Refusal.{Refusal}
-use Rattle.calls.specs.declared.Refusal.the-variants.{BadOrder, TooManyBytes, PastBuffer, BadNumber, TooManyNumbers, TooManyCodewords, FullRow, TooMuchInput, NoRoom, BadRest, TooLarge, BadSpan, BadPlace, BadUse, BadAlphabet, OutsideAlphabet, NotAnIndex, TooFewUses, BadLine, BadRepeats, TooMuchShared}
+use Rattle.calls.specs.declared.Refusal.the-variants.{BadOrder, TooManyBytes, PastBuffer, BadNumber, TooManyNumbers, TooManyCodewords, FullRow, TooMuchInput, NoRoom, BadRest, TooLarge, BadSpan, BadPlace, BadUse, BadAlphabet, OutsideAlphabet, NotAnIndex, TooFewUses, BadLine, BadRepeats, TooMuchShared, BadStoppers, Unfinished}
 
 abbrev pub reason : Refusal → ℕ × ℕ
 reason BadOrder = (1, 0)
@@ -25,3 +25,5 @@ reason TooFewUses = (12, 0)
 reason BadLine = (13, 0)
 reason BadRepeats = (14, 0)
 reason TooMuchShared = (15, 0)
+reason BadStoppers = (16, 0)
+reason Unfinished = (17, 0)

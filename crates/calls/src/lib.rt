@@ -50,6 +50,10 @@ pub enum Refusal {
     BadRepeats,
     // 15: more is shared than the row's total.
     TooMuchShared,
+    // 16: the stoppers of a dense code are not 1 to 254.
+    BadStoppers,
+    // 17: the bytes end inside a codeword.
+    Unfinished,
 }
 
 // A refusal as the papers give it: its number, and a place, which is 0 where they name none.
@@ -89,14 +93,16 @@ pub fn reason(r: Refusal) -> Numbered
         Refusal::BadLine => with_place(13, 0),
         Refusal::BadRepeats => with_place(14, 0),
         Refusal::TooMuchShared => with_place(15, 0),
+        Refusal::BadStoppers => with_place(16, 0),
+        Refusal::Unfinished => with_place(17, 0),
     }
 }
 
 // A refusal in words, by its number. Which is given when, papers 01 and 02 say; 13 is the listing program's alone.
-pub const REFUSALS: [u8; 550] = *b"\
+pub const REFUSALS: [u8; 627] = *b"\
 \n\
 the order is not 2 to 6\n\
-more than 24064 bytes, or more in use than the buffer has\n\
+more bytes than an encoding can have, or more in use than the buffer has\n\
 a number is 0\n\
 more than 4096 numbers\n\
 the output is too short\n\
@@ -109,7 +115,9 @@ the bytes are no index of so many numbers\n\
 the number stands in the row fewer times\n\
 a line of the input has another form, or there is none\n\
 the repeats are not 1 to 10000\n\
-more is shared than the row's total\n";
+more is shared than the row's total\n\
+the stoppers are not 1 to 254\n\
+the bytes end inside a codeword\n";
 
 // What a call answers whose one result is a count: of numbers, bits or bytes.
 pub enum CountAnswer {

@@ -128,6 +128,18 @@ enum-told-18 c = search needs
 with-place-requires-21 : tie.Need-with-place-requires-21
 with-place-requires-21 c κs = search needs
 
+enum-told-19 : tie.Need-enum-told-19
+enum-told-19 c = search needs
+
+with-place-requires-22 : tie.Need-with-place-requires-22
+with-place-requires-22 c κs = search needs
+
+enum-told-20 : tie.Need-enum-told-20
+enum-told-20 c = search needs
+
+with-place-requires-23 : tie.Need-with-place-requires-23
+with-place-requires-23 c κs = search needs
+
 returns : tie.Need-returns
 returns c = rw (c .before .enum-told .given .1) (c .with-place .ensures)
 
@@ -191,6 +203,12 @@ returns-20 c = rw (c .before .enum-told17 .given .1) (c .with-place20 .ensures)
 returns-21 : tie.Need-returns-21
 returns-21 c = rw (c .before .enum-told18 .given .1) (c .with-place21 .ensures)
 
+returns-22 : tie.Need-returns-22
+returns-22 c = rw (c .before .enum-told19 .given .1) (c .with-place22 .ensures)
+
+returns-23 : tie.Need-returns-23
+returns-23 c = rw (c .before .enum-told20 .given .1) (c .with-place23 .ensures)
+
 pub reason-spec : {M : Type 1} → statement M
 reason-spec =
     tie.close
@@ -237,6 +255,10 @@ reason-spec =
     with-place-requires-20
     enum-told-18
     with-place-requires-21
+    enum-told-19
+    with-place-requires-22
+    enum-told-20
+    with-place-requires-23
     returns
     returns-2
     returns-3
@@ -257,4 +279,6 @@ reason-spec =
     returns-18
     returns-19
     returns-20
-    returns-21)
+    returns-21
+    returns-22
+    returns-23)

@@ -1,0 +1,6 @@
+pub mod Numbers
+pub mod Parse
+pub mod Rows
+pub mod Long
+pub mod Limits
+pub mod Computed

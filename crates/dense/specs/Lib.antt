@@ -1,0 +1,4 @@
+pub mod Code
+pub mod Encoding
+pub mod Limits
+pub mod Leaves

@@ -1,0 +1,3 @@
+pub mod Front
+pub mod Scanning
+pub mod Reading
