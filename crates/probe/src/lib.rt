@@ -8,6 +8,8 @@ ghost use Rattle.totals.specs.Totals.{total, repeatedTotal};
 ghost use Rattle.encoder.specs.Writing.{write, writeInto};
 ghost use Rattle.appender.specs.Appending.{append, appendInto};
 ghost use Rattle.table_decoder.specs.Reading.{readTable, readTableInto, readBytes, readBytesInto};
+ghost use Rattle.dense_encoder.specs.Writing.{writeDense, writeDenseInto};
+ghost use Rattle.dense_decoder.specs.Reading.{readDense, readDenseInto};
 ghost use Rattle.wavelet.specs.Questions.{build, buildInto, extract, rank, select};
 ghost use Rattle.listing_text.specs.Listing.{text, put, putInto};
 ghost use Rattle.answers.specs.Leaves.{single, pair, values};
@@ -63,6 +65,33 @@ pub extern "C" fn probe_table_read_bytes(s: &[u8], out: &mut [u8], answer: &mut 
     ensures { λ r. ⌜ now (out .exit) ≡ readBytesInto (now (s .entry)) (now (out .entry)) ⌝ }
 {
     tell(answer, answers::of_count(table_decoder::read_bytes(s, out)));
+}
+
+#[no_mangle]
+pub extern "C" fn probe_dense_write(
+    stoppers: usize,
+    row: &[u32],
+    out: &mut [u8],
+    answer: &mut [u64],
+)
+    ensures { λ r. ⌜ now (answer .exit) ≡ told (single (writeDense stoppers (now (row .entry)) (length (now (out .entry))))) (now (answer .entry)) ⌝ }
+    ensures { λ r. ⌜ now (out .exit) ≡ writeDenseInto stoppers (now (row .entry)) (now (out .entry)) ⌝ }
+{
+    tell(
+        answer,
+        answers::of_count(dense_encoder::write(stoppers, row, out)),
+    );
+}
+
+#[no_mangle]
+pub extern "C" fn probe_dense_read(stoppers: usize, b: &[u8], out: &mut [u32], answer: &mut [u64])
+    ensures { λ r. ⌜ now (answer .exit) ≡ told (single (readDense stoppers (now (b .entry)) (length (now (out .entry))))) (now (answer .entry)) ⌝ }
+    ensures { λ r. ⌜ now (out .exit) ≡ readDenseInto stoppers (now (b .entry)) (now (out .entry)) ⌝ }
+{
+    tell(
+        answer,
+        answers::of_count(dense_decoder::read(stoppers, b, out)),
+    );
 }
 
 #[no_mangle]
