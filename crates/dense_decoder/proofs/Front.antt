@@ -106,9 +106,10 @@ module _ (s : ℕ) (b : List ℕ) (from y : ℕ) where
   passed-none = record { bytes = []; are = refl; go = tt; string = refl }
 
   module _ (i z : ℕ) (p : Passed s b from y i z) where
-    pub passed-more : (x : ℕ) → i < length b → x ≡ getD b i 0 → s ≤ x → Passed s b from y (i + 1) (z * continuers s + (x - s + 1))
+    -- one more, which is digit d, from 1 up
+    pub passed-more : (x d : ℕ) → i < length b → x ≡ getD b i 0 → s ≤ x → d ≡ x - s + 1 → Passed s b from y (i + 1) (z * continuers s + d)
     unfolding index
-    passed-more x h e l =
+    passed-more x d h e l is =
         record {
           bytes = p .bytes ++ (x ∷ []);
           are = p .are ∙ ap (λ (t : List ℕ). p .bytes ++ t) (here b i x h e) ∙ sym (append-assoc (p .bytes) (x ∷ []) (drop (i + 1) b));

@@ -31,9 +31,9 @@ Front s limit b now step.Open = (numbers s (continuers s) now ≡ []) × (1 ≤ 
 abbrev pub FrontAfter : ℕ → ℕ → List ℕ → ℕ → ℕ → Step → Type 0
 FrontAfter s limit b i y r = (u : List ℕ) → Rest s u → 1 ≤ length u → y ≡ index s (continuers s) 0 u → Front s limit b (u ++ drop i b) r
 
--- .. if the string is above the limit, and so every number that begins with it
+-- .. if the string is at the limit or above it: every number that begins with it is above the limit
 abbrev pub FrontPast : ℕ → List ℕ → ℕ → Step → Type 0
-FrontPast s b i r = (limit y : ℕ) → limit < y → FrontAfter s limit b i y r
+FrontPast s b i r = (limit y : ℕ) → limit ≤ y → FrontAfter s limit b i y r
 
 -- What bytes are refused for that follow 4,096 codewords
 abbrev pub Past : ℕ → List ℕ → Refusal → Type 0

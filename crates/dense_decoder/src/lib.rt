@@ -69,15 +69,19 @@ fn finish(b: &[u8], from: usize, stoppers: u64, limit: u64, y: u64) -> Step
     ensures { λ r. ⌜ FrontAfter stoppers limit (now (b .entry)) from y r ⌝ }
 {
     let continuers = 256 - stoppers;
+    let below = (stoppers - 1) as u8;
     let mut string = y;
-    for i in from..b.len() {
-        let x = wide(b[i]);
-        if x < stoppers {
-            return numbered(string * stoppers + x + 1, i + 1, limit);
+    let mut i = from;
+    while i < b.len() {
+        let x = b[i];
+        let last = wide(x);
+        i += 1;
+        if last < stoppers {
+            return numbered(string * stoppers + last + 1, i, limit);
         }
-        string = string * continuers + (x - stoppers + 1);
-        if limit < string {
-            return past_limit(b, i + 1, stoppers);
+        string = string * continuers + wide(x - below);
+        if limit <= string {
+            return past_limit(b, i, stoppers);
         }
     }
     Step::Open

@@ -40,7 +40,7 @@ loop-again c =
     let a = c .before .before .before .before .before .before .args in
     let l = c .before .before .before .before .loop in
     let x = c .before .wide in
-    (omega arith, refl, (_, passed-more (a .stoppers) (a .b .now) (a .from) 0 (l .i) _ (l .inv .2 .1) (x .result) (omega arith) (x .ensures .0) (omega arith)))
+    (omega arith, refl, (_, passed-more (a .stoppers) (a .b .now) (a .from) 0 (l .i) _ (l .inv .2 .1) (x .result) _ (omega arith) (x .ensures .0) (omega arith) refl))
 
 returns-2 : tie.Need-returns-2 Inv-loop μ-loop
 returns-2 c =
