@@ -4,6 +4,7 @@ use Rattle.demands.proofs.Codes.{demand-3}
 use Rattle.demands.proofs.RoundTrip.{round-trip}
 use Rattle.demands.proofs.Readers.{two-readers}
 use Rattle.demands.proofs.Totals.{totals-demand}
+use Rattle.demands.proofs.Dense.{dense-demand}
 use Rattle.demands.proofs.Index.{index-demand, built-answers}
 use Rattle.demands.proofs.Listing.{listing-demand}
 use Rattle.demands.proofs.Pencil.{pencil-holds}
@@ -18,6 +19,7 @@ demands-hold =
       totals = totals-demand;
       index = index-demand;
       built = built-answers;
+      dense = dense-demand;
       listing = listing-demand;
       pencil = pencil-holds;
       sentences = sentences-hold;

@@ -23,7 +23,7 @@ use Rattle.demands.specs.Readers.{ReturnsParse, TwoReaders}
 
 -- ## The numbers of the parse
 
-read-parse : (m : ℕ) → ReturnsParse m (read m) (readInto m)
+read-parse : (m : ℕ) → ReturnsParse (λ s. numbers m (unpack s)) (read m) (readInto m)
 read-parse m s before n e =
     let i = read-is m s (length before) n e in
     let row = i .1 .0 in
@@ -32,7 +32,7 @@ read-parse m s before n e =
       read-row m s before (i .0) row (i .1 .1) (i .1 .3) .1 ∙ ap₂ (λ (r : List ℕ) (k : ℕ). r ++ drop k before) same (sym (i .1 .2)),
     )
 
-table-parse : ReturnsParse 3 readTable readTableInto
+table-parse : ReturnsParse (λ s. numbers 3 (unpack s)) readTable readTableInto
 table-parse s before n e =
     let p = read-parse 3 s before n (sym (table-read s (length before)) ∙ e) in
     (p .0, table-into s before ∙ p .1)

@@ -4,6 +4,7 @@ use Rattle.demands.specs.Codes.{Demand3}
 use Rattle.demands.specs.RoundTrip.{RoundTrip}
 use Rattle.demands.specs.Readers.{TwoReaders}
 use Rattle.demands.specs.Totals.{TotalsDemand}
+use Rattle.demands.specs.Dense.{DenseDemand}
 use Rattle.demands.specs.Index.{IndexDemand, BuiltAnswers}
 use Rattle.demands.specs.Listing.{ListingDemand}
 use Rattle.demands.specs.Pencil.{Pencil}
@@ -18,6 +19,8 @@ pub record Demands : Type 0 where
   pub totals : TotalsDemand
   pub index : (m N : ℕ) → 2 ≤ m → 1 ≤ N → IndexDemand m N
   pub built : BuiltAnswers
+  -- Paper 02, R-2: the dense code
+  pub dense : DenseDemand
   -- Paper 01: the listing; its worked examples, and the sentences beside them
   pub listing : ListingDemand
   pub pencil : Pencil

@@ -3,4 +3,3 @@ pub mod Parse
 pub mod Rows
 pub mod Long
 pub mod Limits
-pub mod Computed

@@ -1,16 +1,16 @@
 -- How long codewords of legal numbers are: at most 25 bytes, for every s from 1 to 254.
-use mathlib.Core.Path.{_≡_, refl, sym, ap, _∙_}
-use mathlib.Core.List.{List, [], _∷_, _++_, flatten}
-use Prim.Native.Nat.{ℕ, zero, suc, _+_, _-_, _*_, _≤_, _<_}
+use mathlib.Core.Path.{_≡_, refl, ap}
+use mathlib.Core.List.{List, [], _∷_, flatten}
+use Prim.Native.Nat.{ℕ, zero, suc, _-_, _*_, _≤_, _<_}
 use native.Mathlib.Omega.{arith}
 use native.Mathlib.Nat.{mul-le-mul}
 use native.Mathlib.Decide.{decLe}
 use lib.ListN.{length, length-append}
-use Rattle.calls.specs.Limits.{Legal, maxNumber}
+use Rattle.calls.specs.Limits.{Legal, maxNumber, maxCount}
 use Rattle.calls.proofs.Checks.{number-is}
-use Rattle.dense.specs.Code.{Codeword, first, number, codeword}
+use Rattle.dense.specs.Code.{first, number, codeword}
 use Rattle.dense.specs.Encoding.{encoding}
-use Rattle.dense.specs.Limits.{continuers}
+use Rattle.dense.specs.Limits.{Stoppers, continuers, maxDenseBytes}
 use Rattle.dense.proofs.Numbers.{shorter, first-is, first-up, codeword-good, number-length}
 
 shorter-up : (a c k : ℕ) → a ≤ c → shorter a k ≤ shorter c k
@@ -33,12 +33,6 @@ first-long s p h =
       | yes g ↦ omega (arith, first-is s (continuers s) 25, shorter-2, mul-le-mul (shorter-up 2 (continuers s) 25 (omega arith)) g)
       | no g ↦ omega (arith, first-up s (continuers s) 6 25 (omega arith), first-is s (continuers s) 6, shorter-128, mul-le-mul (shorter-up 128 (continuers s) 6 (omega arith)) p)
     ]
-
--- the codeword of n with j continuers
-pub codeword-length : (s c n j : ℕ) → 1 ≤ s → 1 ≤ c → first s c j ≤ n → n < first s c (suc j) → length (codeword s c n) ≡ suc j
-codeword-length s c n j ps pc l h =
-    let k = codeword-good s c ps pc n (omega (arith, first-is s c j)) in
-    number-length s c (codeword s c n) j (k .0) .1 (rw (k .1) (l, h))
 
 pub codeword-long : (s n : ℕ) → 1 ≤ s → s ≤ 254 → 1 ≤ n → n ≤ maxNumber → length (codeword s (continuers s) n) ≤ 25
 codeword-long s n ps h pn l =
@@ -64,3 +58,7 @@ encoding-long s (n ∷ row) ps h a =
       codeword-long s n ps h (p .0) (p .1),
       encoding-long s row ps h (a .1),
     )
+
+-- the bytes of a row that is written are not too many to be read
+pub rows-fit : (s : ℕ) (row : List ℕ) → Stoppers s → length row ≤ maxCount → Legal maxNumber row → length (encoding s (continuers s) row) ≤ maxDenseBytes
+rows-fit s row o l a = omega (arith, encoding-long s row (o .0) (o .1) a)

@@ -1,12 +1,12 @@
 -- Numbers and codewords correspond one to one, for any s and c from 1 up.
-use mathlib.Core.Path.{_≡_, refl, sym, ap, ap₂, _∙_}
+use mathlib.Core.Path.{_≡_, refl, sym, ap, _∙_}
 use mathlib.Core.List.{List, [], _∷_, _++_, append-assoc}
 use mathlib.Core.Logic.{_↔_}
 use Prim.Native.Nat.{ℕ, zero, suc, _+_, _-_, _*_, _/_, _%_, _^_, _≤_, _<_}
 use native.Mathlib.Omega.{arith}
-use native.Mathlib.Nat.{add-zero, zero-add, pow-zero, pow-suc, div-le-self, mod-lt, div-add-mod', mul-add-div-right, div-eq-of-lt, mul-le-mul-right, le-mul-of-pos-right, one-le-pow}
+use native.Mathlib.Nat.{add-zero, zero-add, pow-zero, pow-suc, div-le-self, mod-lt, div-add-mod', mul-add-div-right, div-eq-of-lt, mul-le-mul-right, le-mul-of-pos-right}
 use native.Mathlib.Decide.{decLe}
-use lib.ListN.{length, take, getD, length-append}
+use lib.ListN.{length, length-append}
 use lib.Seq.{take-append-seam, getD-append-seam}
 use Rattle.lists.specs.Lists.{All}
 use Rattle.dense.specs.Code.{Continuer, Codeword, first, value, number, stem, codeword}
@@ -33,7 +33,7 @@ unfoldable pub shorter : ℕ → ℕ → ℕ
 shorter c zero = 0
 shorter c (suc k) = suc (shorter c k * c)
 
-pub shorter-pow : (c k : ℕ) → shorter c k + c ^ k ≡ suc (shorter c k * c)
+shorter-pow : (c k : ℕ) → shorter c k + c ^ k ≡ suc (shorter c k * c)
 unfolding shorter
 shorter-pow c zero = omega (arith, pow-zero c)
 shorter-pow c (suc k) = omega (arith, pow-suc c k, ap (λ (x : ℕ). x * c) (shorter-pow c k))
@@ -97,7 +97,7 @@ stem-grows s c zero y t = omega arith
 stem-grows s c (suc f) zero t = omega arith
 stem-grows s c (suc f) (suc z) t = omega (arith, stem-grows s c f (z / c) ((s + z % c) ∷ t))
 
-pub stem-front : (s c f y : ℕ) (t : List ℕ) → stem s c f y t ≡ stem s c f y [] ++ t
+stem-front : (s c f y : ℕ) (t : List ℕ) → stem s c f y t ≡ stem s c f y [] ++ t
 unfolding stem
 stem-front s c zero y t = refl
 stem-front s c (suc f) zero t = refl
@@ -106,14 +106,14 @@ stem-front s c (suc f) (suc z) t =
     ∙ sym (append-assoc (stem s c f (z / c) []) ((s + z % c) ∷ []) t)
     ∙ ap (λ (l : List ℕ). l ++ t) (sym (stem-front s c f (z / c) ((s + z % c) ∷ [])))
 
-pub stem-leading : (s c f y : ℕ) (t : List ℕ) → 1 ≤ c → All (Continuer s c) t → All (Continuer s c) (stem s c f y t)
+stem-leading : (s c f y : ℕ) (t : List ℕ) → 1 ≤ c → All (Continuer s c) t → All (Continuer s c) (stem s c f y t)
 unfolding stem
 stem-leading s c zero y t p a = a
 stem-leading s c (suc f) zero t p a = a
 stem-leading s c (suc f) (suc z) t p a = stem-leading s c f (z / c) ((s + z % c) ∷ t) p ((omega arith, omega (arith, mod-lt z {m = c} p)), a)
 
 -- string y is string y
-pub stem-index : (s c f y : ℕ) (t : List ℕ) → y ≤ f → index s c 0 (stem s c f y t) ≡ index s c y t
+stem-index : (s c f y : ℕ) (t : List ℕ) → y ≤ f → index s c 0 (stem s c f y t) ≡ index s c y t
 unfolding stem index
 stem-index s c zero zero t h = refl
 stem-index s c zero (suc z) t h = absurd (omega arith)
@@ -128,7 +128,7 @@ index-grows s c y [] p = omega arith
 index-grows s c y (b ∷ u) p = omega (arith, index-grows s c (suc (y * c + (b - s))) u p, le-mul-of-pos-right {m = c} y p)
 
 -- and the only one of its number
-pub index-stem : (s c f y : ℕ) (u t : List ℕ) → 1 ≤ c → All (Continuer s c) u → index s c y u ≤ f → stem s c f (index s c y u) t ≡ stem s c f y (u ++ t)
+index-stem : (s c f y : ℕ) (u t : List ℕ) → 1 ≤ c → All (Continuer s c) u → index s c y u ≤ f → stem s c f (index s c y u) t ≡ stem s c f y (u ++ t)
 unfolding index
 index-stem s c f y [] t p a h = refl
 index-stem s c f y (b ∷ u) t p a h =

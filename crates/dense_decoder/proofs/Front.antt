@@ -1,5 +1,5 @@
 -- The codeword at the front of bytes, by the continuers and the stopper that it is made of.
-use mathlib.Core.Path.{_≡_, refl, sym, ap, ap₂, _∙_}
+use mathlib.Core.Path.{_≡_, refl, sym, ap, _∙_}
 use mathlib.Core.Bool.{Bool, true, false}
 use mathlib.Core.List.{List, [], _∷_, _++_, append-assoc, append-nil, map}
 use Prim.Native.Nat.{ℕ, suc, _+_, _-_, _*_, _≤_, _<_}
@@ -13,7 +13,7 @@ use Rattle.lists.proofs.Each.{all-append}
 use Rattle.codes.specs.Parse.{Parse, parsed, codewords, rest, prepend}
 use Rattle.dense.specs.Code.{number}
 use Rattle.dense.specs.Encoding.{Rest, parse, numbers}
-use Rattle.dense.specs.Limits.{Stoppers, continuers}
+use Rattle.dense.specs.Limits.{continuers}
 use Rattle.dense.specs.Leaves.{index}
 use Rattle.dense.proofs.Numbers.{index-append, index-grows, number-index}
 use Rattle.dense.proofs.Parse.{parse-stem, parse-rest}

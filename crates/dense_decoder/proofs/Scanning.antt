@@ -11,9 +11,9 @@ use lib.Seq.{length-take-le, take-suc-set}
 use borrow.Author.Tests.{le-leb, lt-leb}
 use Rattle.lists.proofs.Each.{all-append}
 use Rattle.codes.specs.Rows.{Positive}
-use Rattle.codes.specs.Parse.{Parse, parsed, rest}
+use Rattle.codes.specs.Parse.{rest}
 use Rattle.calls.specs.declared.Refusal.{Refusal}
-use Rattle.calls.specs.declared.Refusal.the-variants.{TooManyCodewords, TooLarge, Unfinished}
+use Rattle.calls.specs.declared.Refusal.the-variants.{TooLarge, Unfinished}
 use Rattle.calls.specs.Calls.{accepted, refused, check}
 use Rattle.calls.specs.Limits.{isNumber, Legal, maxCount}
 use Rattle.calls.specs.Reading.{contents}

@@ -1,6 +1,6 @@
 // Reading bytes of the (s, c)-dense code, s from 1 to 254 and c the rest.
 ghost use mathlib.Core.Path.{_≡_};
-ghost use Prim.Native.Nat.{_^_, _≤_, _<_, min};
+ghost use Prim.Native.Nat.{_≤_, _<_, min};
 ghost use lib.ListN.{length, drop};
 ghost use Rattle.calls.specs.Limits.{maxNumber, maxCount};
 ghost use Rattle.calls.specs.Reading.{decode};

@@ -1,7 +1,6 @@
 use Prim.Native.Nat.{_+_, _-_, _*_, _≤_}
 use native.Mathlib.Omega.{arith}
 use native.Mathlib.Nat.{mul-le-mul}
-use lib.ListN.{length}
 use borrow.Author.Needs.{needs}
 use Rattle.dense.specs.Limits.{continuers}
 use Rattle.dense_decoder.proofs.Front.{front-one, front-last, front-two, front-more}

@@ -1,14 +1,10 @@
 use mathlib.Core.Path.{_≡_, refl, sym, ap, subst, _∙_}
-use mathlib.Core.List.{List}
-use Prim.Native.Nat.{ℕ, _+_, _-_, _≤_, _<_, min}
+use Prim.Native.Nat.{ℕ, _-_, _≤_, _<_, min}
 use native.Mathlib.Omega.{arith}
-use lib.ListN.{length, take, drop, set, length-set}
+use lib.ListN.{length, take, drop, length-set}
 use borrow.Author.Needs.{needs}
-use Rattle.calls.specs.declared.Refusal.{Refusal}
-use Rattle.calls.specs.declared.Refusal.the-variants.{TooLarge, Unfinished}
-use Rattle.calls.specs.Calls.{accepted, refused}
+use Rattle.calls.specs.Calls.{accepted}
 use Rattle.calls.specs.Limits.{maxCount}
-use Rattle.calls.specs.Reading.{contents, decode}
 use Rattle.calls.proofs.Decoding.{decode-long, decode-contents}
 use Rattle.dense_decoder.specs.declared.Step.{Step}
 use Rattle.dense_decoder.specs.declared.Step.the-variants.{Number, Large, Open}
