@@ -109,7 +109,7 @@ returns-2 c =
     let e = c .before .before in
     let a = e .before .before .before .before .before .before .before .args in
     passed-front (a .stoppers) (a .b .now) (a .from) (a .y) _ _ (next-string e) (a .limit) (c .past-limit .result)
-    (c .past-limit .ensures (a .limit) _ (c .before .if2 .taken))
+    (c .past-limit .ensures (a .limit) _ (omega arith))
 
 loop-less : tie.Need-loop-less Inv-loop μ-loop
 loop-less c = search needs
