@@ -8,7 +8,7 @@ use crate::table;
 use crate::words::{decimal, Words};
 
 /// The most bytes of a line, without its line feed.
-const LONGEST_LINE: usize = 131_071;
+const LONGEST_LINE: usize = 327_679;
 /// The largest rooms: in bytes, and in numbers.
 const ROOM_BYTES: usize = 102_416;
 const ROOM_NUMBERS: usize = 4_100;
