@@ -6,6 +6,14 @@
 #include <stdlib.h>
 #include <string.h>
 
+const size_t orders[ORDERS] = {2, 3, 4, 5, 6};
+const size_t stoppers[STOPPERS] = {8, 128, 200, 254};
+
+int is_dense(size_t code)
+{
+    return code > 6;
+}
+
 static uint64_t state = 88172645463325252u;
 
 static uint64_t draw(void)
@@ -43,10 +51,13 @@ static void *room(size_t n)
     return p;
 }
 
-static void add_row(struct input *in, size_t order, enum kind kind, size_t count)
+static void add_row(struct input *in, size_t code, enum kind kind, size_t count)
 {
     memset(in, 0, sizeof *in);
-    in->order = order;
+    if (is_dense(code))
+        in->stoppers = code;
+    else
+        in->order = code;
     in->count = count;
     in->row = room(4 * count);
     for (size_t i = 0; i < count; i++)
@@ -69,6 +80,12 @@ static void add_encodings(struct input *in)
     in->shorter_last = in->shorter_used > 0 ? in->shorter[in->shorter_used - 1] : 0;
     if (in->order == 2)
         in->peer = sdsl_row_of(in->row, in->count);
+}
+
+static void add_dense(struct input *in)
+{
+    in->encoding = room(PLAIN_DENSE_BYTES * in->count);
+    in->used = plain_dense_write(in->stoppers, in->row, in->count, in->encoding);
 }
 
 /* The index, and a question about a place of the row. */
@@ -124,14 +141,16 @@ static void add_two_bytes(struct input *in, size_t order)
     }
 }
 
-static void add(struct input *in, size_t order, enum kind kind, size_t count)
+static void add(struct input *in, size_t code, enum kind kind, size_t count)
 {
     if (kind == TWO_BYTES) {
-        add_two_bytes(in, order);
+        add_two_bytes(in, code);
         return;
     }
-    add_row(in, order, kind, count);
-    if (kind == TO_256 || kind == INDEXED)
+    add_row(in, code, kind, count);
+    if (is_dense(code))
+        add_dense(in);
+    else if (kind == TO_256 || kind == INDEXED)
         add_index(in);
     else if (kind == LISTED)
         add_text(in);
@@ -141,14 +160,14 @@ static void add(struct input *in, size_t order, enum kind kind, size_t count)
         add_encodings(in);
 }
 
-void pool_fill(struct pool *p, size_t order, enum kind kind, size_t count)
+void pool_fill(struct pool *p, size_t code, enum kind kind, size_t count)
 {
     p->part = kind == TO_256 || kind == INDEXED ? 8 : 4096 / count;
     p->n = 8 * p->part;
     if (p->n > POOL_MOST)
         p->n = POOL_MOST;
     for (size_t k = 0; k < p->n; k++)
-        add(&p->in[k], order, kind, count);
+        add(&p->in[k], code, kind, count);
 }
 
 void pool_free(struct pool *p)

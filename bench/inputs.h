@@ -24,9 +24,16 @@ enum kind {
 
 #define ALPHABET 256
 
+/* A code: one of the orders or, for a dense code, its stoppers, which are more than an order. */
+#define ORDERS 5
+#define STOPPERS 4
+extern const size_t orders[ORDERS], stoppers[STOPPERS];
+int is_dense(size_t code);
+
 /* A row and what is made of it. What a group of calls does not need is NULL. */
 struct input {
-    size_t order, count;
+    size_t order, stoppers; /* of its code; the other is 0 */
+    size_t count;
     uint32_t *row;
     uint8_t *encoding; /* the encoding, and how many bytes it has */
     size_t used;
@@ -51,7 +58,7 @@ struct pool {
 };
 
 /* Fills a pool with inputs of a kind: eight parts of 4,096 numbers, or, for the index, of eight rows. */
-void pool_fill(struct pool *p, size_t order, enum kind kind, size_t count);
+void pool_fill(struct pool *p, size_t code, enum kind kind, size_t count);
 void pool_free(struct pool *p);
 
 #endif

@@ -6,7 +6,7 @@
 
 /* What a group of calls took: nanoseconds a call, 0 where a side was not asked for. */
 struct times {
-    size_t order, count;
+    size_t code, count;
     enum kind kind;
     double ns[SIDES];
 };

@@ -1,4 +1,4 @@
-/* Each operation in plain C, written the obvious way and unchecked: order, bytes, numbers, places and room are taken to be right. */
+/* Each operation in plain C, written the obvious way and unchecked: order or stoppers, bytes, numbers, places and room are taken to be right. */
 #ifndef PLAIN_H
 #define PLAIN_H
 
@@ -22,6 +22,11 @@ uint64_t plain_total(size_t order, const uint8_t *s, size_t len, size_t a, size_
 
 /* 001's reader of order 3 by a table, byte by byte, in one pass. */
 size_t plain_table_read(const uint8_t *s, size_t len, uint32_t *out);
+
+/* The dense code, in one pass: a number's bytes by division from the last one on, and a byte at a time. A codeword has at most 25 bytes. */
+#define PLAIN_DENSE_BYTES 25
+size_t plain_dense_write(size_t stoppers, const uint32_t *row, size_t count, uint8_t *out);
+size_t plain_dense_read(size_t stoppers, const uint8_t *bytes, size_t len, uint32_t *out);
 
 /* The row index. Building gives the number of bits. The questions go the same way over the bitmaps as the proved ones, over all of them, which shows where
    they end; `end` gets that. */

@@ -25,6 +25,8 @@ static const struct pair pairs[] = {
     {READ, SDSL_DECODE, {1.3, 1.0, 0.7}},
     {WRITE, PLAIN_WRITE, {0.5, 0.5, 0.5}},
     {WRITE, SDSL_ENCODE, {1.0, 1.0, 1.0}},
+    {DENSE_READ, PLAIN_DENSE_READ, {1.3, 1.3, 1.3}},
+    {DENSE_WRITE, PLAIN_DENSE_WRITE, {1.2, 1.2, 1.2}},
     {APPEND, READ, {1.1, 1.1, 1.1}},
     {APPEND, PLAIN_APPEND, {0}},
     {TOTAL, READ, {0.95, 0.95, 0.95}},
@@ -61,22 +63,22 @@ static const char *const kind_names[] = {
     [REFUSED_7] = "a number that is too large in the last place (7)",
 };
 
-struct times *report_times(size_t order, enum kind kind, size_t count)
+struct times *report_times(size_t code, enum kind kind, size_t count)
 {
     if (group_count == GROUPS_MOST) {
         fprintf(stderr, "bench: too many groups\n");
         exit(1);
     }
     struct times *t = &groups[group_count++];
-    *t = (struct times){.order = order, .kind = kind, .count = count};
+    *t = (struct times){.code = code, .kind = kind, .count = count};
     return t;
 }
 
 /* The times of a group, or NULL. */
-static const struct times *find(size_t order, enum kind kind, size_t count)
+static const struct times *find(size_t code, enum kind kind, size_t count)
 {
     for (size_t i = 0; i < group_count; i++)
-        if (groups[i].order == order && groups[i].kind == kind && groups[i].count == count)
+        if (groups[i].code == code && groups[i].kind == kind && groups[i].count == count)
             return &groups[i];
     return NULL;
 }
@@ -95,30 +97,33 @@ static int reached(double r, double at_most)
     return r < at_most + 0.005;
 }
 
-/* The first order in which a pair has a ratio to reach: in order 2 read has SDSL's decode beside it, and not the plain reader. */
-static size_t first_order(struct pair p)
+/* Whether a group has a ratio of a pair to reach: in order 2 read has SDSL's decode beside it, and not the plain reader. */
+static int is_asked(const struct times *t, struct pair p, enum kind kind)
 {
-    return p.side == READ && p.other == PLAIN_READ ? 3 : 2;
+    if (p.side == READ && p.other == PLAIN_READ && t->code == 2)
+        return 0;
+    return p.at_most[kind] > 0 && t->kind == kind && t->count == (kind == TWO_BYTES ? 4 : 4096);
 }
 
-/* The worst ratio of a pair over the orders, where there is one to reach, and its group. */
+/* The worst ratio of a pair over the codes, where there is one to reach, and its group. */
 static double worst(struct pair p, enum kind kind, const struct times **where)
 {
     double most = 0;
 
-    if (p.at_most[kind] == 0)
-        return 0;
-    for (size_t order = first_order(p); order <= 6; order++) {
-        const struct times *t = find(order, kind, kind == TWO_BYTES ? 4 : 4096);
-        if (ratio(t, p) > most) {
-            most = ratio(t, p);
-            *where = t;
+    for (size_t i = 0; i < group_count; i++)
+        if (is_asked(&groups[i], p, kind) && ratio(&groups[i], p) > most) {
+            most = ratio(&groups[i], p);
+            *where = &groups[i];
         }
-    }
     return most;
 }
 
 /* ## Tables */
+
+static void print_code(size_t code)
+{
+    printf(is_dense(code) ? "s = %zu" : "order %zu", code);
+}
 
 static void reach_line(struct pair p, enum kind kind)
 {
@@ -127,13 +132,15 @@ static void reach_line(struct pair p, enum kind kind)
 
     if (t == NULL)
         return;
-    printf("| %s | %s | %s | %.2f | %.2f | order %zu | %s |\n", calls[p.side].name, calls[p.other].name, kind_names[kind], p.at_most[kind], r,
-           t->order, reached(r, p.at_most[kind]) ? "yes" : "NO");
+    printf("| %s | %s | %s | %.2f | %.2f | ", calls[p.side].name, calls[p.other].name, kind_names[kind], p.at_most[kind], r);
+    print_code(t->code);
+    printf(" | %s |\n", reached(r, p.at_most[kind]) ? "yes" : "NO");
 }
 
 static void print_reach(void)
 {
-    printf("## To reach\n\nThe worst ratio over the orders (of read beside plain C, over 3 to 6), proved side over the other, rows of 4,096 numbers.\n\n");
+    printf("## To reach\n\nThe worst ratio over the orders (of read beside plain C, over 3 to 6) or, in the dense code, over the stoppers s,"
+           " proved side over the other, rows of 4,096 numbers.\n\n");
     printf("| operation | against | numbers | at most | measured | at | reached |\n|---|---|---|---|---|---|---|\n");
     for (size_t i = 0; i < PAIRS; i++)
         for (enum kind kind = GEOMETRIC; kind <= TWO_BYTES; kind++)
@@ -179,38 +186,47 @@ static int by_call(enum side s)
     return s == EXTRACT || s == RANK || s == SELECT;
 }
 
-/* Whether both of a pair were measured, in some order. */
-static int measured(struct pair p, enum kind kind, size_t count)
+/* Whether both of a pair were measured, in one of the codes. */
+static int measured(struct pair p, enum kind kind, size_t count, const size_t *codes, size_t n)
 {
-    for (size_t order = 2; order <= 6; order++)
-        if (ratio(find(order, kind, count), p) > 0)
+    for (size_t i = 0; i < n; i++)
+        if (ratio(find(codes[i], kind, count), p) > 0)
             return 1;
     return 0;
 }
 
-static void pair_line(struct pair p, enum kind kind, size_t count)
+static void pair_line(struct pair p, enum kind kind, size_t count, const size_t *codes, size_t n)
 {
-    if (!measured(p, kind, count))
+    if (!measured(p, kind, count, codes, n))
         return;
     printf("| %s | %s | ", calls[p.side].name, calls[p.other].name);
     print_count(count);
     printf(" | %s | ", kind_names[kind]);
-    for (size_t order = 2; order <= 6; order++) {
-        print_cell(find(order, kind, count), p, by_call(p.side) ? 1 : (double)count);
-        printf(order < 6 ? " " : "\n");
+    for (size_t i = 0; i < n; i++) {
+        print_cell(find(codes[i], kind, count), p, by_call(p.side) ? 1 : (double)count);
+        printf(i + 1 < n ? " " : "\n");
     }
 }
 
-static void print_pairs(void)
+/* A table with a column for each of the codes. */
+static void print_pairs(const size_t *codes, size_t n)
 {
     static const size_t counts[] = {4096, 64, 4};
 
-    printf("\n## All times and ratios\n\nNanoseconds a number (questions: a call), proved / other = ratio, by order.\n\n");
-    printf("| operation | against | row | numbers | order 2 | order 3 | order 4 | order 5 | order 6 |\n|---|---|---|---|---|---|---|---|---|\n");
+    printf("| operation | against | row | numbers |");
+    for (size_t i = 0; i < n; i++) {
+        printf(" ");
+        print_code(codes[i]);
+        printf(" |");
+    }
+    printf("\n|---|---|---|---|");
+    for (size_t i = 0; i < n; i++)
+        printf("---|");
+    printf("\n");
     for (size_t i = 0; i < PAIRS; i++)
         for (size_t c = 0; c < 3; c++)
             for (enum kind kind = GEOMETRIC; kind <= LISTED; kind++)
-                pair_line(pairs[i], kind, counts[c]);
+                pair_line(pairs[i], kind, counts[c], codes, n);
 }
 
 /* A table of the times of a call against the length of the row, in order 3. */
@@ -245,7 +261,10 @@ void report_tables(void)
     static const enum side refused[] = {READ, TABLE_READ, TOTAL};
 
     print_reach();
-    print_pairs();
+    printf("\n## All times and ratios\n\nNanoseconds a number (questions: a call), proved / other = ratio, by order.\n\n");
+    print_pairs(orders, ORDERS);
+    printf("\nThe same for the dense code, by its stoppers s:\n\n");
+    print_pairs(stoppers, STOPPERS);
     printf("\n## Growth\n\nNanoseconds a call against the length of the row; order 3, numbers to 1,000.\n\n");
     print_growth(GROWING, growing, 5);
     printf("\nThe same for the index, numbers to 256:\n\n");
@@ -320,7 +339,7 @@ int report_picture(const char *folder)
     fprintf(f, "<svg xmlns='http://www.w3.org/2000/svg' width='%d' height='%d' font-family='sans-serif' font-size='12'>\n", LEFT + WIDTH + 70, height);
     fprintf(f, "<rect width='100%%' height='100%%' fill='white'/>\n");
     fprintf(f, "<text x='10' y='22' font-size='15'>%s</text>\n",
-            "Time of the proved side over the other's: rows of 4,096, the worst order; the mark is what it may be");
+            "Time of the proved side over the other's: rows of 4,096, the worst order or s; the mark is what it may be");
     axis(f, height);
     for (size_t i = 0; i < PAIRS; i++)
         for (enum kind kind = GEOMETRIC; kind <= TWO_BYTES; kind++)

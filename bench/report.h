@@ -5,7 +5,7 @@
 #include "measure.h"
 
 /* Where the times of a group go. */
-struct times *report_times(size_t order, enum kind kind, size_t count);
+struct times *report_times(size_t code, enum kind kind, size_t count);
 
 /* Prints the tables: the ratios to reach, all times and ratios, growth, and encodings that are refused late. */
 void report_tables(void);

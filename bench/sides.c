@@ -33,6 +33,8 @@ static void run_table_read_bytes(struct input *in) { probe_table_read_bytes(in->
 static void run_total(struct input *in) { probe_total(in->order, in->encoding, in->used, 0, in->count, answer, 5); }
 static void run_repeated(struct input *in) { probe_repeated_total(in->order, in->encoding, in->used, REPEATS, SHARED, answer, 5); }
 static void run_write(struct input *in) { probe_write(in->order, in->row, in->count, bytes, sizeof bytes, answer, 5); }
+static void run_dense_read(struct input *in) { probe_dense_read(in->stoppers, in->encoding, in->used, numbers, 4096, answer, 5); }
+static void run_dense_write(struct input *in) { probe_dense_write(in->stoppers, in->row, in->count, bytes, sizeof bytes, answer, 5); }
 static void run_build(struct input *in) { probe_build(in->order, ALPHABET, in->row, in->count, bytes, sizeof bytes, answer, 5); }
 static void run_listing(struct input *in) { probe_listing((const uint8_t *)in->text, 11 * in->lines, bytes, sizeof bytes, answer, 5); }
 
@@ -71,6 +73,8 @@ static void plain_run_table_read(struct input *in) { result = plain_table_read(i
 static void plain_run_total(struct input *in) { result = plain_total(in->order, in->encoding, in->used, 0, in->count); }
 static void plain_run_repeated(struct input *in) { result = joined(plain_total(in->order, in->encoding, in->used, 0, in->count)); }
 static void plain_run_write(struct input *in) { result = plain_write(in->order, in->row, in->count, bytes); }
+static void plain_run_dense_read(struct input *in) { result = plain_dense_read(in->stoppers, in->encoding, in->used, numbers); }
+static void plain_run_dense_write(struct input *in) { result = plain_dense_write(in->stoppers, in->row, in->count, bytes); }
 static void plain_run_build(struct input *in) { result = plain_build(in->order, ALPHABET, in->row, in->count, bytes); }
 static void plain_run_listing(struct input *in) { result = plain_listing(in->text, in->lines, (char *)bytes); }
 
@@ -174,6 +178,8 @@ const struct call calls[SIDES] = {
     [RANK] = {"rank", run_rank, right_rank},
     [SELECT] = {"select", run_select, right_place},
     [LISTING] = {"listing", run_listing, right_text},
+    [DENSE_READ] = {"dense read", run_dense_read, right_row},
+    [DENSE_WRITE] = {"dense write", run_dense_write, right_encoding},
     [PLAIN_READ] = {"plain C bit reader", plain_run_read, plain_right_row},
     [PLAIN_TABLE_READ] = {"001's table reader in C", plain_run_table_read, plain_right_row},
     [PLAIN_TOTAL] = {"plain C", plain_run_total, plain_right_total},
@@ -185,6 +191,8 @@ const struct call calls[SIDES] = {
     [PLAIN_RANK] = {"the same walk in plain C", plain_run_rank, plain_right_rank},
     [PLAIN_SELECT] = {"the same walk in plain C", plain_run_select, plain_right_place},
     [PLAIN_LISTING] = {"plain C by sprintf", plain_run_listing, text_there},
+    [PLAIN_DENSE_READ] = {"plain C dense reader", plain_run_dense_read, plain_right_row},
+    [PLAIN_DENSE_WRITE] = {"plain C dense writer", plain_run_dense_write, plain_right_encoding},
     [SDSL_DECODE] = {"SDSL's decode", sdsl_run_decode, peer_right_row},
     [SDSL_SUM] = {"SDSL's prefix sum", sdsl_run_sum, plain_right_total},
     [SDSL_ENCODE] = {"SDSL's encode", sdsl_run_encode, any},

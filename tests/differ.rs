@@ -7,6 +7,8 @@ mod model;
 mod border;
 #[path = "differ/codec.rs"]
 mod codec;
+#[path = "differ/dense.rs"]
+mod dense;
 #[path = "differ/encodings.rs"]
 mod encodings;
 #[path = "differ/every.rs"]
@@ -34,6 +36,7 @@ use random::Random;
 /// Random cases of each kind for one seed.
 const ROWS: usize = 6_000;
 const ENCODINGS: usize = 10_000;
+const DENSE: usize = 10_000;
 const INDEXES: usize = 6_000;
 const LISTINGS: usize = 6_000;
 
@@ -46,6 +49,9 @@ fn round(border: &mut Border, ledger: &mut Ledger, seed: u64) {
     }
     for _ in 0..ENCODINGS {
         codec.encoding_case();
+    }
+    for _ in 0..DENSE {
+        codec.dense_case();
     }
     let mut indexing = Indexing { border, ledger, random: &mut random };
     for _ in 0..INDEXES {
@@ -65,6 +71,7 @@ fn fixed_codec(border: &mut Border, ledger: &mut Ledger) {
     codec.every();
     codec.limits();
     codec.words();
+    codec.dense();
 }
 
 fn fixed_index(border: &mut Border, ledger: &mut Ledger) {

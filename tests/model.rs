@@ -12,6 +12,7 @@ use std::rc::Rc;
 pub const MAX_NUMBER: u128 = 4_294_967_295;
 pub const MAX_COUNT: usize = 4_096;
 pub const MOST_BYTES: u64 = 24_064;
+pub const MOST_DENSE_BYTES: u64 = 102_400;
 pub const LARGEST_ALPHABET: u64 = 4_096;
 
 /// What a call says: the number of its answer, the place, and its results, which are 0 after a refusal.
@@ -157,18 +158,22 @@ pub fn codeword(m: usize, n: u128) -> Vec<bool> {
 }
 
 /// The codewords of a row, one after the other.
-pub fn row_bits(m: usize, row: &[u32]) -> Vec<bool> {
-    let mut bits = Vec::new();
-    let mut last: Option<(u32, Vec<bool>)> = None;
+fn joined<T: Clone>(row: &[u32], codeword: impl Fn(u128) -> Vec<T>) -> Vec<T> {
+    let mut all = Vec::new();
+    let mut last: Option<(u32, Vec<T>)> = None;
     for &n in row {
         // a row that repeats a number repeats its codeword
         let again = matches!(&last, Some((before, _)) if *before == n);
         if !again {
-            last = Some((n, codeword(m, n as u128)));
+            last = Some((n, codeword(n as u128)));
         }
-        bits.extend(&last.as_ref().unwrap().1);
+        all.extend_from_slice(&last.as_ref().unwrap().1);
     }
-    bits
+    all
+}
+
+pub fn row_bits(m: usize, row: &[u32]) -> Vec<bool> {
+    joined(row, |n| codeword(m, n))
 }
 
 // ---- The encoding, paper 01's strip ----
@@ -356,6 +361,132 @@ pub fn repeated_total(order: u64, bytes: &[u8], r: u64, shared: u64) -> Answer<u
         return Answer::no(refusal(15));
     }
     Answer::yes(r * total - (r - 1) * shared)
+}
+
+// ---- The dense byte code of s stoppers, paper 02's R-2 ----
+
+/// The first number with k bytes, as shorter codewords come first: 1 + s + s c + .. + s c^(k - 2), where c is 256 - s. Sums that pass 128 bits stay at the
+/// largest number there is.
+pub fn dense_first(s: usize, k: usize) -> u128 {
+    let c = 256 - s as u128;
+    let mut first: u128 = 1;
+    let mut as_long = s as u128;
+    for _ in 1..k {
+        first = first.saturating_add(as_long);
+        as_long = as_long.saturating_mul(c);
+    }
+    first
+}
+
+/// The number of a codeword: the first of its length and, besides, the leading bytes less s as digits to base c, highest first, and the last byte as the
+/// lowest digit, to base s.
+pub fn dense_number(s: usize, codeword: &[u8]) -> u128 {
+    let c = 256 - s as u128;
+    let (last, leading) = codeword.split_last().unwrap();
+    let mut digits: u128 = 0;
+    for byte in leading {
+        digits = digits.saturating_mul(c).saturating_add(*byte as u128 - s as u128);
+    }
+    let within = digits.saturating_mul(s as u128).saturating_add(*last as u128);
+    dense_first(s, codeword.len()).saturating_add(within)
+}
+
+/// The codeword of a number. Those of one length are counted through: each leading byte parts them into c equal parts, and the last byte into single ones.
+/// That the codeword so found has the number is looked at each time.
+pub fn dense_codeword(s: usize, n: u128) -> Vec<u8> {
+    let c = 256 - s as u128;
+    let mut k = 1;
+    while dense_first(s, k + 1) <= n {
+        k += 1;
+    }
+    let mut left = n - dense_first(s, k);
+    let mut part = dense_first(s, k + 1) - dense_first(s, k);
+    let mut bytes = Vec::new();
+    for _ in 1..k {
+        part /= c;
+        bytes.push((s as u128 + left / part) as u8);
+        left %= part;
+    }
+    assert_eq!(part, s as u128);
+    bytes.push(left as u8);
+    assert_eq!(dense_number(s, &bytes), n);
+    bytes
+}
+
+pub fn dense_bytes(s: usize, row: &[u32]) -> Vec<u8> {
+    joined(row, |n| dense_codeword(s, n))
+}
+
+/// Bytes as codewords, each cut off behind the first byte that is below s, and a rest in which there is none.
+pub fn dense_parse(s: usize, bytes: &[u8]) -> (Vec<Vec<u8>>, Vec<u8>) {
+    let mut codewords = Vec::new();
+    let mut pending: Vec<u8> = Vec::new();
+    for byte in bytes {
+        pending.push(*byte);
+        if (*byte as usize) < s {
+            codewords.push(std::mem::take(&mut pending));
+        }
+    }
+    (codewords, pending)
+}
+
+/// The row of a dense input, or the refusal of reading it: 16; 2; 4 or 7 at each finished codeword, from the left; 17.
+pub fn dense_row_of(stoppers: u64, bytes: &[u8]) -> Result<Vec<u32>, Refusal> {
+    if !(1..=254).contains(&stoppers) {
+        return Err(refusal(16));
+    }
+    if bytes.len() as u64 > MOST_DENSE_BYTES {
+        return Err(refusal(2));
+    }
+    let s = stoppers as usize;
+    let (codewords, rest) = dense_parse(s, bytes);
+    let mut row = Vec::new();
+    for (place, codeword) in codewords.iter().enumerate() {
+        if place == MAX_COUNT {
+            return Err(refusal(4));
+        }
+        let n = dense_number(s, codeword);
+        if n > MAX_NUMBER {
+            return Err(refusal_at(7, place));
+        }
+        row.push(n as u32);
+    }
+    if !rest.is_empty() {
+        return Err(refusal(17));
+    }
+    Ok(row)
+}
+
+/// Writing a row in the dense code: how many bytes it has.
+pub fn dense_write(stoppers: u64, row: &[u32], output: &mut [u8]) -> Answer<u64> {
+    if !(1..=254).contains(&stoppers) {
+        return Answer::no(refusal(16));
+    }
+    if row.len() > MAX_COUNT {
+        return Answer::no(refusal(4));
+    }
+    if let Some(place) = row.iter().position(|n| *n == 0) {
+        return Answer::no(refusal_at(3, place));
+    }
+    let bytes = dense_bytes(stoppers as usize, row);
+    if output.len() < bytes.len() {
+        return Answer::no(refusal(5));
+    }
+    output[..bytes.len()].copy_from_slice(&bytes);
+    Answer::yes(bytes.len() as u64)
+}
+
+/// Reading a row in the dense code: how many numbers it has.
+pub fn dense_read(stoppers: u64, bytes: &[u8], output: &mut [u32]) -> Answer<u64> {
+    let row = match dense_row_of(stoppers, bytes) {
+        Ok(row) => row,
+        Err(refusal) => return Answer::no(refusal),
+    };
+    if output.len() < row.len() {
+        return Answer::no(refusal(5));
+    }
+    output[..row.len()].copy_from_slice(&row);
+    Answer::yes(row.len() as u64)
 }
 
 // ---- The row index ----

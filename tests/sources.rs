@@ -1,4 +1,4 @@
-//! What the papers and their sources 000 and 001 print, held to the model: each value is compared with the model's, and the scripts of the console
+//! What the papers and their sources 000, 001 and 003 print, held to the model: each value is compared with the model's, and the scripts of the console
 //! (tests/scripts, the arguments) have to ask for it. What the sources have wrong is listed with what is right, and there the model has to give the right one.
 
 mod model;
@@ -46,13 +46,14 @@ const fn erratum(place: &'static str, printed: &'static str, right: &'static str
 
 const LIST: &str = "the list has 010011 five times after 10011 and goes on with 0000011; 001's table 2 has all";
 
-const ERRATA: [Erratum; 12] = [
+const ERRATA: [Erratum; 13] = [
     erratum("000, section 2.2, codeword 7", "010011", "01011", LIST),
     erratum("000, section 2.2, codeword 8", "010011", "000011", LIST),
     erratum("000, section 2.2, codeword 9", "010011", "100011", LIST),
     erratum("000, section 2.2, codeword 11", "010011", "001011", LIST),
     erratum("000, section 2.2, codeword 12", "0000011", "101011", LIST),
     erratum("000, section 2.2, where 11 stands", "left", "right", "its own list and 001 have it at the right end"),
+    erratum("001, section 3.1, codewords of up to M bytes, about 128 to the power", "M-1", "M", "its own 2^(7M), and its sum"),
     erratum("001, section 3.3.2, the codeword of 600", "0110110110110111", "0110110110111", "its own two parts, 01101 and 10110111, have thirteen bits"),
     erratum("001, section 3.3.2, pairs inside a byte", "1 1", "1 1, 1 2, 2 1", "after two ones, 10111111 has 2, 1 and 11110111 has 1, 2"),
     erratum("001, section 3.3.3, largest of 16 digits", "19511", "19512", "the sum of the digits that it prints"),
@@ -419,6 +420,60 @@ fn words_of_001(s: &mut Sources) {
     assert!("10000100011111011000111".contains("1111011000111"));
 }
 
+// 001's dense codes: how many codewords they have, and the pairs s and c that it takes, each with the words of its text
+const PAIRS: [(usize, usize, u32); 6] =
+    [(189, 67, 289_101), (185, 71, 439_191), (176, 80, 296_933), (171, 85, 1_000_000), (223, 33, 11_378), (188, 68, 75_192)];
+
+fn dense_of_001(s: &mut Sources) {
+    for (bytes, printed) in (1..).zip([128, 16_512, 2_113_664]) {
+        s.same_number("001, section 3.1, L_E", printed, model::dense_first(128, bytes + 1) - 1);
+        s.same_number("001, section 3.1, codewords of up to M bytes", printed, (1..=bytes).map(|i| 128 * 128u128.pow(i as u32 - 1)).sum());
+    }
+    s.says("dense-write 128 128 16512 2113664", "encoding 7F FF 7F FF FF 7F;");
+    s.says("dense-write 128 129 16513 2113665", "encoding 80 00 80 80 00 80 80 80 00;");
+    let is_power = (1..=12).all(|bytes| (model::dense_first(128, bytes + 1) - 1).ilog2() as usize == 7 * bytes);
+    s.same("001, section 3.1, codewords of up to M bytes, about 128 to the power", "M-1", if is_power { "M" } else { "M-1" });
+    for (stoppers, others, words) in PAIRS {
+        s.same_number("001, tables 3 and 10, s and c", 256, (stoppers + others) as u128);
+        let two = stoppers + stoppers * others;
+        s.says(&format!("dense-write {stoppers} {stoppers} {} {two} {} {words}", stoppers + 1, two + 1), "bytes 11;");
+    }
+}
+
+// .. and from how many bytes on Fibm has more codewords of as many bits. (For order 3 it has 67 bytes, which is past the numbers of the model.)
+fn denser(s: &mut Sources) {
+    for (m, printed) in [(2, None), (3, None), (4, Some(7)), (5, Some(6)), (6, Some(7))] {
+        let more = |bytes: &usize| model::first_number(m, 8 * bytes - m) > model::dense_first(128, bytes + 1);
+        let least = (1..=12).find(more);
+        assert!(least.map_or(true, |least| (least..=12).all(|bytes| more(&bytes))));
+        s.same(&format!("001, section 3.1, Fib{m} is denser"), &format!("{printed:?}"), &format!("{least:?}"));
+    }
+}
+
+// 003's codewords, in which bytes from c up end a codeword and those below c go on, as 001 has them. The words are numbered from 1.
+const OF_003: [(usize, u32, &[u8]); 8] = [
+    (128, 1, &[0x80]),
+    (128, 2, &[0x81]),
+    (128, 128, &[0xFF]),
+    (128, 129, &[0x00, 0x80]),
+    (200, 1, &[0x38]),
+    (200, 200, &[0xFF]),
+    (200, 201, &[0x00, 0x38]),
+    (200, 11_400, &[0x37, 0xFF]),
+];
+
+fn dense_of_003(s: &mut Sources) {
+    for (stoppers, n, printed) in OF_003 {
+        let c = 256 - stoppers;
+        let turned = |byte: &u8| if *byte as usize >= c { *byte as usize - c } else { *byte as usize + stoppers } as u8;
+        let turned: Vec<u8> = printed.iter().map(turned).collect();
+        let right = model::dense_codeword(stoppers, n as u128);
+        s.same(&format!("003, section 2.2, number {n}"), &hexadecimal(&turned), &hexadecimal(&right));
+    }
+    s.says("dense-write 128 1 2 127 128 129", "encoding 00 01 7E 7F 80 00;");
+    s.says("dense-write 200 1 200 201 11400 11401", "encoding 00 C7 C8 00 FF C7 C8 C8 00;");
+}
+
 // 000's codewords, its text and its counts
 fn source_000(s: &mut Sources) {
     let list = "11 011 0011 1011 00011 10011 010011 010011 010011 010011 010011 0000011";
@@ -568,6 +623,51 @@ const R_1: [(&str, &str); 11] = [
     ("repeated-total 3 11 20 6D B8", "total 6400;"),
 ];
 
+// Paper 02's R-2: its four examples, and what decides where a sentence can be read in two ways
+const R_2: [(&str, &str); 41] = [
+    ("dense-write 128 128", "bytes 1; encoding 7F;"),
+    ("dense-write 128 129", "bytes 2; encoding 80 00;"),
+    ("dense-write 128 16512", "bytes 2; encoding FF 7F;"),
+    ("dense-write 128 16513", "bytes 3; encoding 80 80 00;"),
+    ("dense-read 128 7F", "count 1; row 128;"),
+    ("dense-read 128 80 00", "count 1; row 129;"),
+    ("dense-read 128 FF 7F", "count 1; row 16512;"),
+    ("dense-read 128 80 80 00", "count 1; row 16513;"),
+    ("room 9 dense-write 128 128 129 16512 16513", "bytes 8; output 7F 80 00 FF 7F 80 80 00 A5;"),
+    ("room 5 dense-read 128 7F 80 00 FF 7F 80 80 00", "count 4; output 128 129 16512 16513 7777777;"),
+    ("room 1 dense-read 128 80", "NO 17:"),
+    ("room 1 dense-read 128 FFx30", "NO 17:"),
+    ("room 1 dense-read 128 FFx30 00", "NO 7, place 0:"),
+    ("room 0 dense-write 128", "bytes 0; output none;"),
+    ("room 0 dense-read 128", "count 0; output none;"),
+    ("dense-write 254 254", "encoding FD;"),
+    ("dense-write 254 255", "encoding FE 00;"),
+    ("dense-write 254 508", "encoding FE FD;"),
+    ("dense-write 254 509", "encoding FF 00;"),
+    ("dense-write 254 763", "encoding FE FE 00;"),
+    ("dense-write 1 2", "encoding 01 00;"),
+    ("dense-write 1 257", "encoding 01 01 00;"),
+    ("dense-write 255 1", "NO 16:"),
+    ("dense-read 255 00", "NO 16:"),
+    ("dense-write 254 4294967295", "bytes 25;"),
+    ("dense-write 254 4294967295x4096", "bytes 102400;"),
+    ("room 0 dense-write 0 0x4097", "NO 16:"),
+    ("room 0 dense-write 128 0x4097", "NO 4:"),
+    ("room 0 dense-write 128 0x4096", "NO 3, place 0:"),
+    ("room 3 dense-write 128 5 0 0", "NO 3, place 1:"),
+    ("room 1 dense-write 128 129", "NO 5: the output is too short; output A5;"),
+    ("room 0 dense-read 0 00x102401", "NO 16:"),
+    ("dense-read 128 00x102400", "NO 4:"),
+    ("dense-read 128 00x102401", "NO 2:"),
+    ("dense-read 128 FFx102401", "NO 2:"),
+    ("dense-read 128 00x4096 8E FE FE FE 7F", "NO 4:"),
+    ("dense-read 128 8E FE FE FE 7F 00x4097", "NO 7, place 0:"),
+    ("dense-read 128 00x4097 80", "NO 4:"),
+    ("dense-read 128 8E FE FE FE 7F 80", "NO 7, place 0:"),
+    ("room 0 dense-read 128 00 80", "NO 17:"),
+    ("room 0 dense-read 128 00", "NO 5:"),
+];
+
 // Paper 01's listing
 const LISTING: &str = "\
 PLACE     NUMBER BITS           TOTAL
@@ -603,7 +703,7 @@ fn listings(s: &mut Sources) {
 }
 
 fn papers(s: &mut Sources) {
-    for (request, part) in PAPER_01.iter().chain(&READ_AS).chain(&R_1) {
+    for (request, part) in PAPER_01.iter().chain(&READ_AS).chain(&R_1).chain(&R_2) {
         s.says(request, part);
     }
     for (alphabet, visits) in [(3, &[1, 2, 2][..]), (5, &[2, 2, 3, 2, 3])] {
@@ -626,6 +726,9 @@ fn main() {
     text_of_001(&mut s);
     split_codeword(&mut s);
     words_of_001(&mut s);
+    dense_of_001(&mut s);
+    denser(&mut s);
+    dense_of_003(&mut s);
     source_000(&mut s);
     compressors(&mut s);
     trees(&mut s);

@@ -8,12 +8,12 @@ use crate::table;
 use crate::words::{decimal, Words};
 
 /// The most bytes of a line, without its line feed.
-const LONGEST_LINE: usize = 131_071;
+const LONGEST_LINE: usize = 327_679;
 /// The largest rooms: in bytes, and in numbers.
-const ROOM_BYTES: usize = 24_080;
+const ROOM_BYTES: usize = 102_416;
 const ROOM_NUMBERS: usize = 4_100;
 /// Room for every answer.
-const ENOUGH_BYTES: usize = 24_064;
+const ENOUGH_BYTES: usize = 102_400;
 const ENOUGH_NUMBERS: usize = 4_096;
 /// What stands in an output before a call.
 const BYTE_BEFORE: u8 = 0xA5;
@@ -34,12 +34,14 @@ enum Before {
 type Request = fn(Words, Before) -> Option<String>;
 
 /// Each request: its usage, which begins with its name, and its answer.
-const REQUESTS: [(&str, Request); 16] = [
+const REQUESTS: [(&str, Request); 18] = [
     ("codewords ORDER ROW", codewords),
     ("write ORDER ROW", write),
     ("read ORDER BYTES", read),
     ("table-read BYTES", table_read),
     ("table-read-bytes BYTES", table_read_bytes),
+    ("dense-write STOPPERS ROW", dense_write),
+    ("dense-read STOPPERS BYTES", dense_read),
     ("append ORDER NUMBER BYTES", append),
     ("total ORDER FROM TO BYTES", total),
     ("repeated-total ORDER REPEATS SHARED BYTES", repeated_total),
@@ -194,7 +196,7 @@ impl Before {
 fn reason(number: u64) -> &'static str {
     match number {
         1 => "the order is not 2 to 6",
-        2 => "more than 24064 bytes, or more in use than the buffer has",
+        2 => "more bytes than an encoding can have, or more in use than the buffer has",
         3 => "a number is 0",
         4 => "more than 4096 numbers",
         5 => "the output is too short",
@@ -207,6 +209,8 @@ fn reason(number: u64) -> &'static str {
         12 => "the number stands in the row fewer times",
         14 => "the repeats are not 1 to 10000",
         15 => "more is shared than the row's total",
+        16 => "the stoppers are not 1 to 254",
+        17 => "the bytes end inside a codeword",
         _ => panic!("{number} is no refusal"),
     }
 }
@@ -276,6 +280,22 @@ fn table_read_bytes(words: Words, before: Before) -> Option<String> {
     let mut output = before.bytes()?;
     let a = model::table_read_bytes(&bytes, &mut output.elements);
     Some(shown(&a, count, &output, "bytes", 4 * a.results))
+}
+
+fn dense_write(mut words: Words, before: Before) -> Option<String> {
+    let stoppers = words.number()?;
+    let row = words.row()?;
+    let mut output = before.bytes()?;
+    let a = model::dense_write(stoppers, &row, &mut output.elements);
+    Some(shown(&a, |bytes| format!("bytes {bytes}"), &output, "encoding", a.results))
+}
+
+fn dense_read(mut words: Words, before: Before) -> Option<String> {
+    let stoppers = words.number()?;
+    let bytes = words.bytes()?;
+    let mut output = before.numbers()?;
+    let a = model::dense_read(stoppers, &bytes, &mut output.elements);
+    Some(shown(&a, count, &output, "row", a.results))
 }
 
 /// The buffer of an append, and how many of its bytes are in use.

@@ -1,7 +1,7 @@
 //! The words of a line: what parts them, and numbers, rows and bytes.
 
 /// The most elements of a row, or of bytes.
-const MOST_ELEMENTS: usize = 24_080;
+const MOST_ELEMENTS: usize = 102_416;
 
 /// What is left of a line, from which words are taken one by one.
 pub struct Words<'a> {

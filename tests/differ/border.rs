@@ -14,6 +14,8 @@ extern "C" {
     fn probe_read(order: usize, s: *const u8, s_len: usize, out: *mut u32, out_len: usize, answer: *mut u64, answer_len: usize);
     fn probe_table_read(s: *const u8, s_len: usize, out: *mut u32, out_len: usize, answer: *mut u64, answer_len: usize);
     fn probe_table_read_bytes(s: *const u8, s_len: usize, out: *mut u8, out_len: usize, answer: *mut u64, answer_len: usize);
+    fn probe_dense_write(stoppers: usize, row: *const u32, row_len: usize, out: *mut u8, out_len: usize, answer: *mut u64, answer_len: usize);
+    fn probe_dense_read(stoppers: usize, s: *const u8, s_len: usize, out: *mut u32, out_len: usize, answer: *mut u64, answer_len: usize);
     fn probe_append(order: usize, buf: *mut u8, buf_len: usize, used: usize, n: u32, answer: *mut u64, answer_len: usize);
     fn probe_total(order: usize, s: *const u8, s_len: usize, a: usize, b: usize, answer: *mut u64, answer_len: usize);
     fn probe_repeated_total(order: usize, s: *const u8, s_len: usize, repeats: u64, shared: u64, answer: *mut u64, answer_len: usize);
@@ -238,6 +240,14 @@ impl Border {
 
     pub fn table_read_bytes(&mut self, s: &[u8], out: &[u8]) -> Called<u8> {
         self.call(s, out, |s, ss, o, os, a, n| unsafe { probe_table_read_bytes(s, ss, o, os, a, n) })
+    }
+
+    pub fn dense_write(&mut self, stoppers: usize, row: &[u32], out: &[u8]) -> Called<u8> {
+        self.call(row, out, |r, rs, o, os, a, n| unsafe { probe_dense_write(stoppers, r, rs, o, os, a, n) })
+    }
+
+    pub fn dense_read(&mut self, stoppers: usize, s: &[u8], out: &[u32]) -> Called<u32> {
+        self.call(s, out, |s, ss, o, os, a, n| unsafe { probe_dense_read(stoppers, s, ss, o, os, a, n) })
     }
 
     pub fn append(&mut self, order: usize, buf: &[u8], used: usize, number: u32) -> Called<u8> {

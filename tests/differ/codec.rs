@@ -1,4 +1,4 @@
-//! Writing, the two readers, appending and totals beside the model.
+//! Writing, the two readers, the dense code, appending and totals beside the model.
 
 use crate::border::{told, Border, Called, Told, TOLD};
 use crate::encodings;
@@ -53,6 +53,24 @@ impl Codec<'_> {
         let a = model::table_read_bytes(s, &mut output);
         let arguments = || format!("table_read_bytes(s {}, out {})", bytes(s), bytes(out));
         self.ledger.compare("table_read_bytes", &a.number.to_string(), &called, one(&a), &output, arguments);
+    }
+
+    pub fn dense_write(&mut self, stoppers: usize, row: &[u32], out: &[u8]) -> Called<u8> {
+        let called = self.border.dense_write(stoppers, row, out);
+        let mut output = out.to_vec();
+        let a = model::dense_write(stoppers as u64, row, &mut output);
+        let arguments = || format!("dense_write(stoppers {stoppers}, row {}, out {})", numbers(row), bytes(out));
+        self.ledger.compare("dense_write", &a.number.to_string(), &called, one(&a), &output, arguments);
+        called
+    }
+
+    pub fn dense_read(&mut self, stoppers: usize, s: &[u8], out: &[u32]) -> Called<u32> {
+        let called = self.border.dense_read(stoppers, s, out);
+        let mut output = out.to_vec();
+        let a = model::dense_read(stoppers as u64, s, &mut output);
+        let arguments = || format!("dense_read(stoppers {stoppers}, s {}, out {})", bytes(s), numbers(out));
+        self.ledger.compare("dense_read", &a.number.to_string(), &called, one(&a), &output, arguments);
+        called
     }
 
     pub fn append(&mut self, order: usize, buf: &[u8], used: usize, n: u32) -> Called<u8> {

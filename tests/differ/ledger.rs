@@ -6,11 +6,13 @@ use crate::border::{Called, Told, CASE, SEED};
 
 /// Each operation, with the answers that the papers give it: every one has to come, and no other may. Those of the listing are told by its text, and 5 by an
 /// output that the text does not fit.
-const OPERATIONS: [(&str, &[&str]); 12] = [
+const OPERATIONS: [(&str, &[&str]); 14] = [
     ("write", &["0", "1", "4", "3", "5"]),
     ("read", &["0", "1", "2", "4", "7", "6", "5"]),
     ("table_read", &["0", "2", "4", "7", "6", "5"]),
     ("table_read_bytes", &["0", "2", "4", "7", "6", "5"]),
+    ("dense_write", &["0", "16", "4", "3", "5"]),
+    ("dense_read", &["0", "16", "2", "4", "7", "17", "5"]),
     ("append", &["0", "1", "2", "4", "7", "6", "3", "4 (full)", "5"]),
     ("total", &["0", "1", "2", "4", "7", "6", "8"]),
     ("repeated_total", &["0", "1", "2", "4", "7", "6", "14", "15"]),

@@ -61,6 +61,14 @@ impl Random {
         2 + self.below(5)
     }
 
+    /// Stoppers from 1 to 254; now and then others.
+    pub fn stoppers(&mut self) -> usize {
+        if self.once_in(16) {
+            return self.one_of(&[0, 255, 256, 257, 384, 65_664, 1 << 32, (1 << 32) + 128, 1 << 63, (1 << 63) + 128, usize::MAX]);
+        }
+        if self.once_in(2) { self.one_of(&[1, 2, 127, 128, 129, 200, 253, 254]) } else { 1 + self.below(254) }
+    }
+
     /// The length of an output that needs so many elements: too short, exact or longer.
     pub fn room(&mut self, need: usize) -> usize {
         match self.below(8) {
