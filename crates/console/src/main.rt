@@ -10,11 +10,12 @@ use libc::STDERR_FILENO;
 use libc::STDIN_FILENO;
 use libc::STDOUT_FILENO;
 
-// The most bytes of a line: the longest row, the longest encoding and the largest index fit.
-const MAX_LINE: usize = 131071;
+// The most bytes of a line: the longest row, the largest index and the longest encoding fit. One of the dense code may have 102,400 bytes, of three characters
+// each.
+const MAX_LINE: usize = 327679;
 
-// Room for every answer: 4,096 numbers with their codewords have the longest.
-const MAX_ANSWER: usize = 262144;
+// Room for every answer: 102,416 bytes, of three characters each, make the longest.
+const MAX_ANSWER: usize = 393216;
 
 // The line that is being read: how many of its bytes are in the buffer, and whether it had more than fit; and whether there is somebody to answer.
 struct Line {
@@ -29,7 +30,7 @@ fn complain(message: &[u8]) {
 
 fn put_answer(line: &[u8], long: bool, out: &mut [u8]) -> usize {
     if long {
-        return say::text(out, 0, b"expected a line of at most 131071 bytes\n");
+        return say::text(out, 0, b"expected a line of at most 327679 bytes\n");
     }
     serve::line(line, out)
 }

@@ -26,7 +26,11 @@ pub fn numbers_of(k: usize) -> usize {
 
 // What follows the numbers: a row, bytes, or something else.
 pub fn has_row(k: usize) -> bool {
-    k == texts::CODEWORDS || k == texts::WRITE || k == texts::BUILD || k == texts::LISTING
+    k == texts::CODEWORDS
+        || k == texts::WRITE
+        || k == texts::DENSE_WRITE
+        || k == texts::BUILD
+        || k == texts::LISTING
 }
 
 pub fn has_no_list(k: usize) -> bool {
@@ -35,11 +39,15 @@ pub fn has_no_list(k: usize) -> bool {
 
 // What a request's operation writes to: a row, bytes, or nothing.
 pub fn writes_row(k: usize) -> bool {
-    k == texts::READ || k == texts::TABLE_READ
+    k == texts::READ || k == texts::TABLE_READ || k == texts::DENSE_READ
 }
 
 pub fn writes_bytes(k: usize) -> bool {
-    k == texts::WRITE || k == texts::TABLE_READ_BYTES || k == texts::APPEND || k == texts::BUILD
+    k == texts::WRITE
+        || k == texts::TABLE_READ_BYTES
+        || k == texts::DENSE_WRITE
+        || k == texts::APPEND
+        || k == texts::BUILD
 }
 
 // Whether the numbers of a request are such that its operation can be asked: numbers and alphabets have 32 bits, and an order of the listing ten digits.
@@ -69,6 +77,10 @@ pub fn write(order: u64, row: &[u32], out: &mut [u8]) -> Answer {
     answers::of_write(encoder::write(order as usize, row, out))
 }
 
+fn dense_write(stoppers: u64, row: &[u32], out: &mut [u8]) -> Answer {
+    answers::of_count(dense_encoder::write(stoppers as usize, row, out))
+}
+
 fn build(n: &[u64; 5], row: &[u32], out: &mut [u8]) -> Answer {
     answers::of_count(wavelet_build::build(n[0] as usize, narrow(n[1]), row, out))
 }
@@ -88,6 +100,9 @@ pub fn into_bytes(
     if k == texts::WRITE {
         return write(n[0], row, out);
     }
+    if k == texts::DENSE_WRITE {
+        return dense_write(n[0], row, out);
+    }
     if k == texts::BUILD {
         return build(n, row, out);
     }
@@ -97,9 +112,20 @@ pub fn into_bytes(
     answers::of_count(table_decoder::read_bytes(s, out))
 }
 
-pub fn into_row(k: usize, order: u64, s: &[u8], out: &mut [u32]) -> Answer {
+fn read(order: u64, s: &[u8], out: &mut [u32]) -> Answer {
+    answers::of_count(decoder::read(order as usize, s, out))
+}
+
+fn dense_read(stoppers: u64, s: &[u8], out: &mut [u32]) -> Answer {
+    answers::of_count(dense_decoder::read(stoppers as usize, s, out))
+}
+
+pub fn into_row(k: usize, n: &[u64; 5], s: &[u8], out: &mut [u32]) -> Answer {
     if k == texts::READ {
-        return answers::of_count(decoder::read(order as usize, s, out));
+        return read(n[0], s, out);
+    }
+    if k == texts::DENSE_READ {
+        return dense_read(n[0], s, out);
     }
     answers::of_count(table_decoder::read(s, out))
 }

@@ -2,6 +2,9 @@
 ghost use Prim.Native.Nat.{_≤_};
 use std::num::wrapping_add_usize;
 
+// The most bytes that a request may have or write: an encoding of the dense code has up to 102,400.
+pub const MAX_BYTES: usize = 102416;
+
 pub fn byte(out: &mut [u8], at: usize, b: u8) -> usize {
     if at < out.len() {
         out[at] = b;
@@ -145,9 +148,9 @@ fn widen(s: &[u8], list: &mut [u32]) {
 
 // At most so many bytes as a request can have.
 pub fn bytes(out: &mut [u8], at: usize, s: &[u8]) -> usize {
-    let mut wide = [0u32; 24080];
+    let mut wide = [0u32; MAX_BYTES];
     let n = s.len();
-    if n > 24080 {
+    if n > MAX_BYTES {
         return at;
     }
     widen(s, &mut wide);

@@ -8,12 +8,17 @@ use crate::words::Meaning;
 use answers::Answer;
 use std::num::wrapping_add_usize;
 
-// The most bytes and numbers that a request may have, and have room for. An appended codeword has at most 47 bits.
-const BUFFER_BYTES: usize = 24080;
+// The most bytes, or numbers, that a request may have, and the most bytes that it has room for.
+const BUFFER_BYTES: usize = say::MAX_BYTES;
 
+// The most numbers that a request has room for.
 const MAX_NUMBERS: usize = 4100;
 
+// An appended codeword has at most 47 bits.
 const APPENDED: usize = 6;
+
+// The codewords of 4,096 numbers have, in each order, at most 24,064 bytes.
+const CODEWORD_BYTES: usize = 24064;
 
 // How much room an output has: enough for every answer; exactly so much; or, of a buffer as long as its bytes, so many bytes in use.
 enum Room {
@@ -148,19 +153,19 @@ fn into_bytes(out: &mut [u8], r: Request, n: &[u64; 5], row: &[u32], s: &[u8]) -
     bytes_in(out, r, n, row, s, &mut buf[0..size])
 }
 
-fn row_in(out: &mut [u8], r: Request, order: u64, s: &[u8], row: &mut [u32]) -> usize {
-    let a = requests::into_row(r.k, order, s, row);
+fn row_in(out: &mut [u8], r: Request, n: &[u64; 5], s: &[u8], row: &mut [u32]) -> usize {
+    let a = requests::into_row(r.k, n, s, row);
     let at = answered(out, r.k, a);
     shown_row(out, at, r, extent(r, a, a.first as usize, row.len()), row)
 }
 
-fn into_row(out: &mut [u8], r: Request, order: u64, s: &[u8]) -> usize {
+fn into_row(out: &mut [u8], r: Request, n: &[u64; 5], s: &[u8]) -> usize {
     let mut row = [7777777u32; MAX_NUMBERS];
     let size = r.size;
     if size > MAX_NUMBERS {
         return 0;
     }
-    row_in(out, r, order, s, &mut row[0..size])
+    row_in(out, r, n, s, &mut row[0..size])
 }
 
 // ## Codewords, and the table
@@ -192,7 +197,7 @@ fn each_codeword(out: &mut [u8], order: u64, row: &[u32]) -> usize {
 
 // The codewords of a row that writing accepts.
 fn codewords(out: &mut [u8], order: u64, row: &[u32]) -> usize {
-    let mut buf = [0u8; BUFFER_BYTES];
+    let mut buf = [0u8; CODEWORD_BYTES];
     let a = requests::write(order, row, &mut buf);
     if a.number != 0 {
         return refusal(out, a);
@@ -233,7 +238,7 @@ fn with_list(out: &mut [u8], r: Request, n: &[u64; 5], row: &[u32], s: &[u8]) ->
         return into_bytes(out, r, n, row, s);
     }
     if requests::writes_row(r.k) {
-        return into_row(out, r, n[0], s);
+        return into_row(out, r, n, s);
     }
     without_output(out, r.k, n, row, s)
 }
