@@ -1,14 +1,13 @@
 -- The codeword at the front of bytes, by the continuers and the stopper that it is made of.
-use mathlib.Core.Path.{_≡_, refl, sym, ap, _∙_}
-use mathlib.Core.Bool.{Bool, true, false}
-use mathlib.Core.List.{List, [], _∷_, _++_, append-assoc, append-nil, map}
-use Prim.Native.Nat.{ℕ, suc, _+_, _-_, _*_, _≤_, _<_}
+use mathlib.Core.Path.{_≡_, refl, sym, ap, subst, _∙_}
+use mathlib.Core.List.{List, [], _∷_, _++_, append-assoc, map}
+use Prim.Native.Nat.{ℕ, zero, suc, _+_, _-_, _*_, _≤_, _<_}
 use native.Mathlib.Omega.{arith}
 use native.Mathlib.Numerals.{add-one}
 use native.Mathlib.Nat.{le-mul-of-pos-right}
 use native.Mathlib.Decide.{decLe}
-use lib.ListN.{length, getD, drop, length-append, drop-of-length-le}
-use lib.Seq.{drop-cons}
+use lib.ListN.{length, getD, drop, length-append, length-drop}
+use lib.Seq.{drop-cons, drop-drop, drop-length, getD-drop}
 use Rattle.lists.proofs.Each.{all-append}
 use Rattle.codes.specs.Parse.{Parse, parsed, codewords, rest, prepend}
 use Rattle.dense.specs.Code.{number}
@@ -16,80 +15,114 @@ use Rattle.dense.specs.Encoding.{Rest, parse, numbers}
 use Rattle.dense.specs.Limits.{continuers}
 use Rattle.dense.specs.Leaves.{index}
 use Rattle.dense.proofs.Numbers.{index-append, index-grows, number-index}
-use Rattle.dense.proofs.Parse.{parse-stem, parse-rest}
+use Rattle.dense.proofs.Parse.{parse-stem}
 use Rattle.dense_decoder.specs.declared.Step.{Step}
-use Rattle.dense_decoder.specs.declared.Step.the-variants.{Number, Large, Open}
-use Rattle.dense_decoder.specs.Leaves.{Ends, Front, FrontAfter, FrontPast}
+use Rattle.dense_decoder.specs.declared.Step.the-variants.{Large}
+use Rattle.dense_decoder.specs.Leaves.{Finished, Numbered, Front, FrontAfter}
 
--- ## Continuers u in front
+-- ## Continuers and a stopper
 
-module _ (s : ℕ) (u : List ℕ) (go : Rest s u) where
+module _ (s : ℕ) (u : List ℕ) (go : Rest s u) (z : ℕ) (t : List ℕ) (stop : z < s) where
   abbrev c : ℕ
   c = continuers s
 
-  -- and a stopper
-  module _ (z : ℕ) (t : List ℕ) (stop : z < s) where
-    prepended : (w : List ℕ) (p : Parse ℕ) → (map (number s c) (codewords (prepend w p)) ≡ number s c w ∷ map (number s c) (codewords p)) × (rest (prepend w p) ≡ rest p)
-    prepended w (parsed ws r) = (refl, refl)
+  prepended : (w : List ℕ) (p : Parse ℕ) → (map (number s c) (codewords (prepend w p)) ≡ number s c w ∷ map (number s c) (codewords p)) × (rest (prepend w p) ≡ rest p)
+  prepended w (parsed ws r) = (refl, refl)
 
-    pub front-is : (numbers s c (u ++ (z ∷ t)) ≡ suc (index s c 0 u * s + z) ∷ numbers s c t) × (rest (parse s (u ++ (z ∷ t))) ≡ rest (parse s t))
-    unfolding numbers
-    front-is =
-        let p = parse-stem s u z t go stop in
-        let w = prepended (u ++ (z ∷ [])) (parse s t) in (
-          ap (λ (x : Parse ℕ). map (number s c) (codewords x)) p ∙ w .0 ∙ ap (λ (n : ℕ). n ∷ map (number s c) (codewords (parse s t))) (number-index s c u z),
-          ap rest p ∙ w .1,
-        )
-
-  -- and nothing
-  pub front-none : 1 ≤ length u → (numbers s c u ≡ []) × (1 ≤ length (rest (parse s u)))
+  pub front-is : (numbers s c (u ++ (z ∷ t)) ≡ suc (index s c 0 u * s + z) ∷ numbers s c t) × (rest (parse s (u ++ (z ∷ t))) ≡ rest (parse s t))
   unfolding numbers
-  front-none h =
-      let p = parse-rest s u go in
-      (ap (λ (x : Parse ℕ). map (number s c) (codewords x)) p, omega (arith, ap (λ (x : Parse ℕ). length (rest x)) p))
+  front-is =
+      let p = parse-stem s u z t go stop in
+      let w = prepended (u ++ (z ∷ [])) (parse s t) in (
+        ap (λ (x : Parse ℕ). map (number s c) (codewords x)) p ∙ w .0 ∙ ap (λ (n : ℕ). n ∷ map (number s c) (codewords (parse s t))) (number-index s c u z),
+        ap rest p ∙ w .1,
+      )
 
--- ## What is found of it
+-- bytes with a stopper have a first one
+first-stopper : (s : ℕ) (l : List ℕ) (j : ℕ) → j < length l → getD l j 0 < s
+    → (u : List ℕ) × (z : ℕ) × (t : List ℕ) × (l ≡ u ++ (z ∷ t)) × Rest s u × (z < s)
+first-stopper s [] j h e = absurd (omega arith)
+first-stopper s (x ∷ l) zero h e = ([], x, l, refl, tt, e)
+first-stopper s (x ∷ l) (suc j) h e =
+    elim (decLe s x) [
+      | yes go ↦
+          let (u, z, t, is, more, stop) = first-stopper s l j (omega arith) e in
+          (x ∷ u, z, t, ap (λ (k : List ℕ). x ∷ k) is, (go, more), stop)
+      | no go ↦ ([], x, l, refl, tt, omega arith)
+    ]
+
+-- ## From a place on
 
 -- the byte x at place i, and those after it
 here : (b : List ℕ) (i x : ℕ) → i < length b → x ≡ getD b i 0 → drop i b ≡ x ∷ drop (i + 1) b
 here b i x h e = rw (add-one, e) (drop-cons b i 0 h)
 
+module _ (s : ℕ) (b : List ℕ) (i : ℕ) (f : Finished s b i) where
+  pub finished-within : i < length b
+  finished-within = omega (arith, f .1, f .2)
+
+  pub finished-later : (x : ℕ) → x ≡ getD b i 0 → s ≤ x → Finished s b (i + 1)
+  finished-later x e go =
+      elim (decLe (i + 1) (f .0)) [
+        | yes l ↦ (f .0, l, f .2, f .3)
+        | no l ↦ let same : f .0 ≡ i = omega (arith, f .1) in absurd (omega (arith, ap (λ (k : ℕ). getD b k 0) same, f .3))
+      ]
+
+  pub finished-first : (u : List ℕ) × (z : ℕ) × (t : List ℕ) × (drop i b ≡ u ++ (z ∷ t)) × Rest s u × (z < s)
+  finished-first =
+      let at : i + (f .0 - i) ≡ f .0 = omega (arith, f .1) in
+      first-stopper s (drop i b) (f .0 - i) (omega (arith, f .1, f .2, length-drop i b)) (rw (getD-drop i b (f .0 - i) 0, at) (f .3))
+
+-- no byte is a stopper of none, and one more in front is a continuer
+pub rest-none : (s : ℕ) (b : List ℕ) → Rest s (drop (length b) b)
+rest-none s b = rw (drop-length b) tt
+
+pub rest-more : (s : ℕ) (b : List ℕ) (end x : ℕ) → 1 ≤ end → end ≤ length b → x ≡ getD b (end - 1) 0 → s ≤ x → Rest s (drop end b) → Rest s (drop (end - 1) b)
+rest-more s b end x h l e go more = let at : end - 1 + 1 ≡ end = omega arith in rw (here b (end - 1) x (omega arith) e, at) (go, more)
+
+-- bytes without a stopper have none later
+pub rest-later : (s : ℕ) (b : List ℕ) (i end : ℕ) → end ≤ i → Rest s (drop end b) → Rest s (drop i b)
+rest-later s b i end h a =
+    let at : end + (i - end) ≡ i = omega arith in
+    subst (Rest s) (drop-drop (i - end) end b ∙ ap (λ (k : ℕ). drop k b) at) (go (i - end) (drop end b) a)
+  where
+    go : (k : ℕ) (l : List ℕ) → Rest s l → Rest s (drop k l)
+    go zero l a = a
+    go (suc k) [] a = tt
+    go (suc k) (x ∷ l) a = go k l (a .1)
+
+-- ## What is found
+
 module _ (s limit : ℕ) (b u : List ℕ) (go : Rest s u) where
-  -- the codeword ends with x at place i, and its number may be above the limit
-  pub front-number : (i x n : ℕ) (r : Step) → i < length b → x ≡ getD b i 0 → x < s → n ≡ suc (index s (continuers s) 0 u * s + x)
-      → (n ≤ limit → r ≡ Number n (i + 1)) × (limit < n → r ≡ Large) → Front s limit b (u ++ drop i b) r
-  front-number i x n r h e stop is told =
+  -- the codeword ends with x at place i, its number is that after m, and it may be above the limit
+  pub front-number : (i x m : ℕ) (r : Step) → i < length b → x ≡ getD b i 0 → x < s → m ≡ index s (continuers s) 0 u * s + x
+      → Numbered m (i + 1) limit r → Front s limit b (u ++ drop i b) r
+  front-number i x m r h e stop is told =
       let f = front-is s u go x (drop (i + 1) b) stop in
       let at = here b i x h e in
-      let ns = ap (λ (l : List ℕ). numbers s (continuers s) (u ++ l)) at ∙ f .0 ∙ ap (λ (k : ℕ). k ∷ numbers s (continuers s) (drop (i + 1) b)) (sym is) in
-      elim (decLe n limit) [
-        | yes l ↦
-            rw (told .0 l) (
-              l,
+      let after : suc (index s (continuers s) 0 u * s + x) ≡ m + 1 = omega arith in
+      let ns = ap (λ (l : List ℕ). numbers s (continuers s) (u ++ l)) at ∙ f .0 ∙ ap (λ (k : ℕ). k ∷ numbers s (continuers s) (drop (i + 1) b)) after in
+      elim (decLe limit m) [
+        | yes l ↦ rw (told .1 l) (m + 1, numbers s (continuers s) (drop (i + 1) b), ns, omega arith)
+        | no l ↦
+            rw (told .0 (omega arith)) (
+              omega arith,
               omega arith,
               omega (arith, length-append u (drop i b), ap length at),
               ns,
               ap (λ (l : List ℕ). rest (parse s (u ++ l))) at ∙ f .1,
             )
-        | no l ↦ rw (told .1 (omega arith)) (n, numbers s (continuers s) (drop (i + 1) b), ns, omega arith)
       ]
 
-  -- no byte is left
-  pub front-open : (i : ℕ) → 1 ≤ length u → length b ≤ i → Front s limit b (u ++ drop i b) Open
-  front-open i some h =
-      let e : u ++ drop i b ≡ u = ap (λ (l : List ℕ). u ++ l) (drop-of-length-le b {i = i} h) ∙ append-nil u in
-      rw e (front-none s u go some)
-
--- what is above the limit already
-pub front-past : (s : ℕ) (b : List ℕ) (i : ℕ) → 1 ≤ s → s ≤ 254 → (more : Bool) → Ends s (drop i b) more → FrontPast s b i (elim more [ true ↦ Large | false ↦ Open ])
-front-past s b i ps hs true (v, z, t, e, go, stop) limit y h u before some is =
+-- a string that is at the limit or above it is in no legal number, whatever follows
+pub front-past : (s limit : ℕ) (b : List ℕ) (i y : ℕ) → 1 ≤ s → s ≤ 254 → Finished s b i → limit ≤ y → FrontAfter s limit b i y Large
+front-past s limit b i y ps hs more h u before is =
     let c : ℕ = continuers s in
+    let (v, z, t, e, go, stop) = finished-first s b i more in
     let f = front-is s (u ++ v) (all-append (λ x. s ≤ x) u v before go) z t stop in
     let joined : u ++ drop i b ≡ (u ++ v) ++ (z ∷ t) = ap (λ (l : List ℕ). u ++ l) e ∙ sym (append-assoc u v (z ∷ t)) in
     let grows : y ≤ index s c 0 (u ++ v) = rw (index-append s c 0 u v, ← is) (index-grows s c y v (omega arith)) in
     (suc (index s c 0 (u ++ v) * s + z), numbers s c t, ap (numbers s c) joined ∙ f .0, omega (arith, le-mul-of-pos-right {m = s} (index s c 0 (u ++ v)) ps))
-front-past s b i ps hs false go limit y h u before some is =
-    front-none s (u ++ drop i b) (all-append (λ x. s ≤ x) u (drop i b) before go) (omega (arith, length-append u (drop i b)))
 
 -- ## Byte by byte
 
@@ -119,52 +152,37 @@ module _ (s : ℕ) (b : List ℕ) (from y : ℕ) where
 
     -- what stands at the front after them stands there before
     pub passed-front : (limit : ℕ) (r : Step) → FrontAfter s limit b i z r → FrontAfter s limit b from y r
-    passed-front limit r found u before some is =
+    passed-front limit r found u before is =
         let c : ℕ = continuers s in
         let e : u ++ drop from b ≡ (u ++ p .bytes) ++ drop i b = ap (λ (l : List ℕ). u ++ l) (p .are) ∙ sym (append-assoc u (p .bytes) (drop i b)) in
         let z-is : z ≡ index s c 0 (u ++ p .bytes) = rw (index-append s c 0 u (p .bytes), ← is) (p .string) in
-        rw e (found (u ++ p .bytes) (all-append (λ x. s ≤ x) u (p .bytes) before (p .go)) (omega (arith, length-append u (p .bytes))) z-is)
-
-    -- where the first stopper is
-    pub passed-end : (x : ℕ) → i < length b → x ≡ getD b i 0 → x < s → Ends s (drop from b) true
-    passed-end x h e stop = (p .bytes, x, drop (i + 1) b, p .are ∙ ap (λ (t : List ℕ). p .bytes ++ t) (here b i x h e), p .go, stop)
-
-    pub passed-all : length b ≤ i → Ends s (drop from b) false
-    passed-all h =
-        let e : drop from b ≡ p .bytes = p .are ∙ ap (λ (t : List ℕ). p .bytes ++ t) (drop-of-length-le b {i = i} h) ∙ append-nil (p .bytes) in
-        rw e (p .go)
+        rw e (found (u ++ p .bytes) (all-append (λ x. s ≤ x) u (p .bytes) before (p .go)) z-is)
 
 -- ## The first bytes
 
 module _ (s limit : ℕ) (b : List ℕ) (i x : ℕ) (h : i < length b) (e : x ≡ getD b i 0) where
   -- one is a codeword
-  pub front-one : (r : Step) → x < s → (x + 1 ≤ limit → r ≡ Number (x + 1) (i + 1)) × (limit < x + 1 → r ≡ Large) → Front s limit b (drop i b) r
+  pub front-one : (r : Step) → x < s → Numbered x (i + 1) limit r → Front s limit b (drop i b) r
   unfolding index
-  front-one r stop told = front-number s limit b [] tt i x (x + 1) r h e stop (omega arith) told
+  front-one r stop told = front-number s limit b [] tt i x x r h e stop (omega arith) told
 
-  module _ (go : s ≤ x) where
-    -- one is all that is left
-    pub front-last : length b ≤ i + 1 → Front s limit b (drop i b) Open
-    front-last l = rw (here b i x h e) (front-open s limit b (x ∷ []) (go, tt) (i + 1) (omega arith) l)
+  -- it is a continuer, and z comes after it
+  module _ (go : s ≤ x) (z : ℕ) (k : i + 1 < length b) (f : z ≡ getD b (i + 1) 0) (r : Step) where
+    one : x - s + 1 ≡ suc (0 * continuers s + (x - s))
+    one = omega arith
 
-    module _ (z : ℕ) (k : i + 1 < length b) (f : z ≡ getD b (i + 1) 0) (r : Step) where
-      one : x - s + 1 ≡ suc (0 * continuers s + (x - s))
-      one = omega arith
+    two : i + 1 + 1 ≡ i + 2
+    two = omega arith
 
-      two : i + 1 + 1 ≡ i + 2
-      two = omega arith
+    -- two are a codeword
+    pub front-two : z < s → Numbered ((x - s + 1) * s + z) (i + 2) limit r → Front s limit b (drop i b) r
+    unfolding index
+    front-two stop told =
+        rw (here b i x h e)
+        (front-number s limit b (x ∷ []) (go, tt) (i + 1) z ((x - s + 1) * s + z) r k f stop (ap (λ (j : ℕ). j * s + z) one) (rw two told))
 
-      -- two are a codeword
-      pub front-two : z < s
-          → let n = (x - s + 1) * s + z + 1 in (n ≤ limit → r ≡ Number n (i + 2)) × (limit < n → r ≡ Large) → Front s limit b (drop i b) r
-      unfolding index
-      front-two stop told =
-          rw (here b i x h e)
-          (front-number s limit b (x ∷ []) (go, tt) (i + 1) z ((x - s + 1) * s + z + 1) r k f stop (omega (arith, ap (λ (j : ℕ). j * s) one)) (rw two told))
-
-      -- two begin a codeword
-      pub front-more : s ≤ z → FrontAfter s limit b (i + 2) ((x - s + 1) * continuers s + (z - s + 1)) r → Front s limit b (drop i b) r
-      unfolding index
-      front-more l found =
-          rw (here b i x h e, here b (i + 1) z k f, two)
-          (found (x ∷ z ∷ []) (go, (l, tt)) (omega arith) (omega (arith, ap (λ (m : ℕ). m * continuers s) one)))
+    -- two begin a codeword
+    pub front-more : s ≤ z → FrontAfter s limit b (i + 2) ((x - s + 1) * continuers s + (z - s + 1)) r → Front s limit b (drop i b) r
+    unfolding index
+    front-more l found =
+        rw (here b i x h e, here b (i + 1) z k f, two) (found (x ∷ z ∷ []) (go, (l, tt)) (omega (arith, ap (λ (m : ℕ). m * continuers s) one)))

@@ -1,31 +1,32 @@
 -- The scan of an encoding, codeword by codeword: what is known between two of them, and what the encoding is refused for.
 use mathlib.Core.Path.{_≡_, refl, sym, ap, _∙_}
-use mathlib.Core.Bool.{Bool, true, false}
-use mathlib.Core.List.{List, [], _∷_, _++_, append-assoc, append-nil}
-use Prim.Native.Nat.{ℕ, _+_, _≤_, _<_, min}
+use mathlib.Core.Bool.{Bool, true}
+use mathlib.Core.List.{List, [], _∷_, _++_, append-assoc, append-nil, map}
+use Prim.Native.Nat.{ℕ, _+_, _-_, _≤_, _<_, min}
 use native.Mathlib.Omega.{arith}
 use native.Mathlib.Numerals.{add-one}
 use lib.Dec.{leb}
-use lib.ListN.{length, take, drop, set, length-drop, drop-of-length-le}
+use lib.ListN.{length, take, drop, set, length-drop}
 use lib.Seq.{length-take-le, take-suc-set}
 use borrow.Author.Tests.{le-leb, lt-leb}
 use Rattle.lists.proofs.Each.{all-append}
 use Rattle.codes.specs.Rows.{Positive}
-use Rattle.codes.specs.Parse.{rest}
-use Rattle.calls.specs.declared.Refusal.{Refusal}
-use Rattle.calls.specs.declared.Refusal.the-variants.{TooLarge, Unfinished}
+use Rattle.codes.specs.Parse.{Parse, codewords, rest}
+use Rattle.calls.specs.declared.Refusal.the-variants.{TooManyCodewords, TooLarge, Unfinished}
 use Rattle.calls.specs.Calls.{accepted, refused, check}
 use Rattle.calls.specs.Limits.{isNumber, Legal, maxCount}
 use Rattle.calls.specs.Reading.{contents}
 use Rattle.calls.proofs.Checks.{is-number}
 use Rattle.calls.proofs.Decoding.{contents-many, contents-large, contents-end}
-use Rattle.dense.specs.Encoding.{parse, numbers}
+use Rattle.dense.specs.Code.{number}
+use Rattle.dense.specs.Encoding.{Rest, parse, numbers}
 use Rattle.dense.specs.Limits.{continuers}
+use Rattle.dense.proofs.Parse.{parse-rest}
 use Rattle.dense.proofs.Rows.{numbers-positive}
-use Rattle.dense_decoder.specs.declared.Step.the-variants.{Number, Large, Open}
+use Rattle.dense_decoder.specs.declared.Step.the-variants.{Number, Large}
 use Rattle.dense_decoder.specs.Reading.{dense}
-use Rattle.dense_decoder.specs.Leaves.{Front, Past}
-use Rattle.dense_decoder.proofs.Front.{front-is, front-none}
+use Rattle.dense_decoder.specs.Leaves.{Finished, Front}
+use Rattle.dense_decoder.proofs.Front.{front-is, finished-first}
 
 -- from byte i on codewords are still to be read; the row has the numbers of those before, and they are legal
 pub record Stored (s limit : ℕ) (b row : List ℕ) (i count : ℕ) : Type 0 where
@@ -81,27 +82,28 @@ module _ (s limit : ℕ) (b row : List ℕ) (i count : ℕ) (room : min maxCount
       contents-large (dense s) limit b done (w .legal) n ns (w .come ∙ ap (λ (l : List ℕ). done ++ l) e) (omega (arith, held)) l
       ∙ ap (λ (k : ℕ). refused (TooLarge k)) held
 
-  -- no codeword is left
-  ended : numbers s c (drop i b) ≡ [] → contents (dense s) limit b ≡ check Unfinished (leb 1 (length (rest (parse s b)))) (accepted done)
-  ended e =
-      contents-end (dense s) limit b done (w .legal) (w .come ∙ ap (λ (l : List ℕ). done ++ l) e ∙ append-nil done) (omega (arith, held, w .many))
-
-  pub stored-open : Front s limit b (drop i b) Open → contents (dense s) limit b ≡ refused Unfinished
-  stored-open (e, l) =
-      let some : 1 ≤ length (rest (parse s b)) = omega (arith, ap length (w .left)) in
-      ended e ∙ ap (λ (t : Bool). check Unfinished t (accepted done)) (le-leb 1 (length (rest (parse s b))) some)
-
-  pub stored-past : (r : Refusal) → count ≡ maxCount → i < length b → Past s (drop i b) r → contents (dense s) limit b ≡ refused r
-  stored-past r full h (true, (u, z, t, e, go, stop), is) =
+  pub stored-many : count ≡ maxCount → Finished s b i → contents (dense s) limit b ≡ refused TooManyCodewords
+  stored-many full f =
+      let (u, z, t, e, go, stop) = finished-first s b i f in
       contents-many (dense s) limit b done (w .legal) _ _ (w .come ∙ ap (λ (l : List ℕ). done ++ l) (ap (numbers s c) e ∙ front-is s u go z t stop .0)) (held ∙ full)
-      ∙ ap refused (sym is)
-  stored-past r full h (false, go, is) = stored-open (front-none s (drop i b) go (omega (arith, length-drop i b))) ∙ ap refused (sym is)
 
   -- ## The end
 
-  pub stored-all : length b ≤ i → (contents (dense s) limit b ≡ accepted done) × (length done ≡ count)
-  unfolding numbers parse
-  stored-all h =
-      let nothing : drop i b ≡ [] = drop-of-length-le b {i = i} h in
-      let none : length (rest (parse s b)) < 1 = omega (arith, ap length (w .left), ap (λ (l : List ℕ). length (rest (parse s l))) nothing) in
-      (ended (ap (numbers s c) nothing) ∙ ap (λ (t : Bool). check Unfinished t (accepted done)) (lt-leb 1 (length (rest (parse s b))) none), held)
+  -- no codeword is left, and all that is left is the rest
+  module _ (go : Rest s (drop i b)) where
+    ended : contents (dense s) limit b ≡ check Unfinished (leb 1 (length (rest (parse s b)))) (accepted done)
+    unfolding numbers
+    ended =
+        let e : numbers s c (drop i b) ≡ [] = ap (λ (p : Parse ℕ). map (number s c) (codewords p)) (parse-rest s (drop i b) go) in
+        contents-end (dense s) limit b done (w .legal) (w .come ∙ ap (λ (l : List ℕ). done ++ l) e ∙ append-nil done) (omega (arith, held, w .many))
+
+    remains : length (rest (parse s b)) ≡ length b - i
+    remains = ap length (w .left ∙ ap rest (parse-rest s (drop i b) go)) ∙ length-drop i b
+
+    pub stored-open : i < length b → contents (dense s) limit b ≡ refused Unfinished
+    stored-open h =
+        ended ∙ ap (λ (t : Bool). check Unfinished t (accepted done)) (le-leb 1 (length (rest (parse s b))) (omega (arith, remains)))
+
+    pub stored-all : length b ≤ i → (contents (dense s) limit b ≡ accepted done) × (length done ≡ count)
+    stored-all h =
+        (ended ∙ ap (λ (t : Bool). check Unfinished t (accepted done)) (lt-leb 1 (length (rest (parse s b))) (omega (arith, remains))), held)

@@ -6,17 +6,15 @@ ghost use Rattle.calls.specs.Limits.{maxNumber, maxCount};
 ghost use Rattle.calls.specs.Reading.{decode};
 ghost use Rattle.calls.specs.Leaves.{Scanned};
 ghost use Rattle.dense.specs.Limits.{Stoppers};
-ghost use Rattle.dense_decoder.specs.declared.Step.the-variants as step;
 ghost use Rattle.dense_decoder.specs.Reading.{dense, ReadPromise};
-ghost use Rattle.dense_decoder.specs.Leaves.{Ends, Front, FrontAfter, FrontPast, Past};
+ghost use Rattle.dense_decoder.specs.Leaves.{Finished, FinishedBefore, Numbered, Front, FrontAfter};
 use calls::CountAnswer;
 use calls::Refusal;
 
-// What stands next: a number and the byte after its codeword; a codeword whose number is above the limit; or none that is finished.
+// What stands next: a number and the byte after its codeword, or a codeword whose number is above the limit.
 enum Step {
     Number(u64, usize),
     Large,
-    Open,
 }
 
 // A byte as a number of 64 bits.
@@ -26,84 +24,69 @@ fn wide(x: u8) -> u64
     x as u64
 }
 
-// Whether a codeword ends from a place on. Requires: a place within the bytes or at their end, as all callers have it.
-fn ends(b: &[u8], from: usize, stoppers: u64) -> bool
-    requires { ⌜ from ≤ length (now b) ⌝ }
-    ensures { λ r. ⌜ Ends stoppers (drop from (now (b .entry))) r ⌝ }
+// Where the last codeword that is finished ends: behind the last stopper.
+fn finished(b: &[u8], stoppers: u64) -> usize
+    ensures { λ r. ⌜ FinishedBefore stoppers (now (b .entry)) r ⌝ }
 {
-    for i in from..b.len() {
-        if wide(b[i]) < stoppers {
-            return true;
+    let mut end = b.len();
+    while 0 < end {
+        if wide(b[end - 1]) < stoppers {
+            return end;
         }
+        end -= 1;
     }
-    false
+    0
 }
 
-// The codeword of a number above the limit, of which the continuers so far tell so, if it is finished. Requires: s from 1 to 254, and a place as above.
-fn past_limit(b: &[u8], i: usize, stoppers: u64) -> Step
-    requires { ⌜ Stoppers stoppers × (i ≤ length (now b)) ⌝ }
-    ensures { λ r. ⌜ FrontPast stoppers (now (b .entry)) i r ⌝ }
+// The codeword of the number after `before`, which may be above the limit.
+fn numbered(before: u64, after: usize, limit: u64) -> Step
+    ensures { λ r. ⌜ Numbered before after limit r ⌝ }
 {
-    if ends(b, i, stoppers) {
+    if limit <= before {
         Step::Large
     } else {
-        Step::Open
+        Step::Number(before + 1, after)
     }
 }
 
-// A codeword's number, which may be above the limit.
-fn numbered(n: u64, after: usize, limit: u64) -> Step
-    ensures { λ r. ⌜ (n ≤ limit → r ≡ step.Number n after) × (limit < n → r ≡ step.Large) ⌝ }
-{
-    if limit < n {
-        Step::Large
-    } else {
-        Step::Number(n, after)
-    }
-}
-
-// The end of a codeword from a place on, after continuers that are string y, counted from 0, the shorter first. Requires: s from 1 to 254, such a place, and a
-// limit and a string of 32 bits, which `next` requires or shows.
+// The end of a codeword from a place on, after continuers that are string y, counted from 0, the shorter first. Every number is above its string. Requires: s
+// from 1 to 254, a stopper from that place on, and a limit and a string of 32 bits, which `next` requires or shows.
 fn finish(b: &[u8], from: usize, stoppers: u64, limit: u64, y: u64) -> Step
-    requires { ⌜ Stoppers stoppers × (from ≤ length (now b)) × (limit ≤ maxNumber) × (y ≤ maxNumber) ⌝ }
+    requires { ⌜ Stoppers stoppers × Finished stoppers (now b) from × (limit ≤ maxNumber) × (y ≤ maxNumber) ⌝ }
     ensures { λ r. ⌜ FrontAfter stoppers limit (now (b .entry)) from y r ⌝ }
 {
     let continuers = 256 - stoppers;
     let below = (stoppers - 1) as u8;
     let mut string = y;
     let mut i = from;
-    while i < b.len() {
+    loop {
         let x = b[i];
         let last = wide(x);
         i += 1;
         if last < stoppers {
-            return numbered(string * stoppers + last + 1, i, limit);
+            return numbered(string * stoppers + last, i, limit);
         }
         string = string * continuers + wide(x - below);
         if limit <= string {
-            return past_limit(b, i, stoppers);
+            return Step::Large;
         }
     }
-    Step::Open
 }
 
-// What stands from a place on. Codewords of one byte and of two are at hand at once. Requires: s from 1 to 254, a byte at the place, and a limit of at most
-// 4,294,967,295, which `store_row` requires or checks.
+// What stands from a place on. Codewords of one byte and of two are at hand at once. Requires: s from 1 to 254, a stopper from that place on, and a limit of
+// at most 4,294,967,295, which `store_row` requires or shows.
 fn next(b: &[u8], i: usize, stoppers: u64, limit: u64) -> Step
-    requires { ⌜ Stoppers stoppers × (i < length (now b)) × (limit ≤ maxNumber) ⌝ }
+    requires { ⌜ Stoppers stoppers × Finished stoppers (now b) i × (limit ≤ maxNumber) ⌝ }
     ensures { λ r. ⌜ Front stoppers limit (now (b .entry)) (drop i (now (b .entry))) r ⌝ }
 {
     let first = wide(b[i]);
     if first < stoppers {
-        return numbered(first + 1, i + 1, limit);
-    }
-    if i + 1 == b.len() {
-        return Step::Open;
+        return numbered(first, i + 1, limit);
     }
     let y = first - stoppers + 1;
     let second = wide(b[i + 1]);
     if second < stoppers {
-        return numbered(y * stoppers + second + 1, i + 2, limit);
+        return numbered(y * stoppers + second, i + 2, limit);
     }
     finish(
         b,
@@ -112,18 +95,6 @@ fn next(b: &[u8], i: usize, stoppers: u64, limit: u64) -> Step
         limit,
         y * (256 - stoppers) + (second - stoppers + 1),
     )
-}
-
-// Why bytes behind 4,096 codewords are refused. Requires: a place as above.
-fn past_count(b: &[u8], i: usize, stoppers: u64) -> Refusal
-    requires { ⌜ i ≤ length (now b) ⌝ }
-    ensures { λ r. ⌜ Past stoppers (drop i (now (b .entry))) r ⌝ }
-{
-    if ends(b, i, stoppers) {
-        Refusal::TooManyCodewords
-    } else {
-        Refusal::Unfinished
-    }
 }
 
 // Stores the row of an encoding in a list. Requires: s from 1 to 254, a limit of at most 4,294,967,295, and room for every row that so many bytes can hold,
@@ -135,22 +106,23 @@ fn store_row(stoppers: u64, b: &[u8], limit: u64, row: &mut [u32]) -> CountAnswe
     if b.len() > dense::MAX_BYTES {
         return CountAnswer::Refused(Refusal::TooManyBytes);
     }
+    let end = finished(b, stoppers);
     let mut i: usize = 0;
     let mut count: usize = 0;
-    while i < b.len() {
+    while i < end {
         if count == calls::MAX_COUNT {
-            return CountAnswer::Refused(past_count(b, i, stoppers));
+            return CountAnswer::Refused(Refusal::TooManyCodewords);
         }
         let found = next(b, i, stoppers, limit);
-        match found {
-            Step::Number(n, after) => {
-                row[count] = n as u32;
-                count += 1;
-                i = after;
-            }
-            Step::Large => return CountAnswer::Refused(Refusal::TooLarge(count)),
-            Step::Open => return CountAnswer::Refused(Refusal::Unfinished),
-        }
+        let Step::Number(n, after) = found else {
+            return CountAnswer::Refused(Refusal::TooLarge(count));
+        };
+        row[count] = n as u32;
+        count += 1;
+        i = after;
+    }
+    if i < b.len() {
+        return CountAnswer::Refused(Refusal::Unfinished);
     }
     CountAnswer::Count(count)
 }
