@@ -49,14 +49,15 @@ fn numbered(before: u64, after: usize, limit: u64) -> Step
     }
 }
 
-// The end of a codeword from a place on, after continuers that are string y, counted from 0, the shorter first. Every number is above its string. Requires: s
-// from 1 to 254, a stopper from that place on, and a limit and a string of 32 bits, which `next` requires or shows.
+// The end of a codeword from a place on, after continuers that are string y, counted from 0, the shorter first. A continuer is a digit, from 1 up: what it is
+// above the highest stopper. Every number is above its string, and so too large where that is at the limit. Requires: s from 1 to 254, a stopper from that
+// place on, and a limit and a string of 32 bits, which `next` requires or shows.
 fn finish(b: &[u8], from: usize, stoppers: u64, limit: u64, y: u64) -> Step
     requires { ⌜ Stoppers stoppers × Finished stoppers (now b) from × (limit ≤ maxNumber) × (y ≤ maxNumber) ⌝ }
     ensures { λ r. ⌜ FrontAfter stoppers limit (now (b .entry)) from y r ⌝ }
 {
     let continuers = 256 - stoppers;
-    let below = (stoppers - 1) as u8;
+    let highest = (stoppers - 1) as u8;
     let mut string = y;
     let mut i = from;
     loop {
@@ -66,7 +67,7 @@ fn finish(b: &[u8], from: usize, stoppers: u64, limit: u64, y: u64) -> Step
         if last < stoppers {
             return numbered(string * stoppers + last, i, limit);
         }
-        string = string * continuers + wide(x - below);
+        string = string * continuers + wide(x - highest);
         if limit <= string {
             return Step::Large;
         }

@@ -13,10 +13,10 @@ use Rattle.dense_decoder.proofs.finish.Statement.{statement}
 use Rattle.dense_decoder.proofs.finish.Tie as tie
 
 abbrev Inv-loop : tie.InvT-loop
-Inv-loop b from stoppers limit y continuers below string₀ i₀ string i = Finished stoppers b i × (string ≤ maxNumber) × Passed stoppers b from y i string
+Inv-loop b from stoppers limit y continuers highest string₀ i₀ string i = Finished stoppers b i × (string ≤ maxNumber) × Passed stoppers b from y i string
 
 abbrev μ-loop : tie.MeasureT-loop
-μ-loop b from stoppers limit y continuers below string₀ i₀ string i = length b - i
+μ-loop b from stoppers limit y continuers highest string₀ i₀ string i = length b - i
 
 -- what the string is multiplied with is small, and so are the products
 number-small : (w : tie.After-wide Inv-loop μ-loop)
@@ -61,11 +61,11 @@ next-string c =
 sub-continuers : tie.Need-sub-continuers Inv-loop μ-loop
 sub-continuers c = search needs
 
-sub-below : tie.Need-sub-below Inv-loop μ-loop
-sub-below c = search needs
+sub-highest : tie.Need-sub-highest Inv-loop μ-loop
+sub-highest c = search needs
 
-cast-below : tie.Need-cast-below Inv-loop μ-loop
-cast-below c = search needs
+cast-highest : tie.Need-cast-highest Inv-loop μ-loop
+cast-highest c = search needs
 
 loop-holds : tie.Need-loop-holds Inv-loop μ-loop
 loop-holds c =
@@ -133,8 +133,8 @@ finish-spec =
     Inv-loop
     μ-loop
     sub-continuers
-    sub-below
-    cast-below
+    sub-highest
+    cast-highest
     loop-holds
     shared-slice-read-x
     wide-requires
