@@ -217,6 +217,21 @@ pub fn encoding(m: usize, row: &[u32]) -> Vec<u8> {
     pack(&row_bits(m, row))
 }
 
+/// The numbers of codewords as a row: at each, from the left, 4 if it is the 4,097th, else 7 if it is too large.
+fn legal_row(numbers: impl Iterator<Item = u128>) -> Result<Vec<u32>, Refusal> {
+    let mut row = Vec::new();
+    for (place, n) in numbers.enumerate() {
+        if place == MAX_COUNT {
+            return Err(refusal(4));
+        }
+        if n > MAX_NUMBER {
+            return Err(refusal_at(7, place));
+        }
+        row.push(n as u32);
+    }
+    Ok(row)
+}
+
 /// The row of an encoding, or the refusal of every call that reads one: 1; 2; 4 or 7 at each finished codeword, from the left; 6.
 pub fn row_of(order: u64, bytes: &[u8]) -> Result<Vec<u32>, Refusal> {
     if !(2..=6).contains(&order) {
@@ -227,17 +242,7 @@ pub fn row_of(order: u64, bytes: &[u8]) -> Result<Vec<u32>, Refusal> {
     }
     let m = order as usize;
     let (codewords, rest) = parse(m, &unpack(bytes));
-    let mut row = Vec::new();
-    for (place, codeword) in codewords.iter().enumerate() {
-        if place == MAX_COUNT {
-            return Err(refusal(4));
-        }
-        let n = number(m, codeword);
-        if n > MAX_NUMBER {
-            return Err(refusal_at(7, place));
-        }
-        row.push(n as u32);
-    }
+    let row = legal_row(codewords.iter().map(|codeword| number(m, codeword)))?;
     if rest.len() >= 8 || rest.contains(&true) {
         return Err(refusal(6));
     }
@@ -266,9 +271,9 @@ pub fn write(order: u64, row: &[u32], output: &mut [u8]) -> Answer<(u64, u64)> {
     Answer::yes((bytes.len() as u64, bits.len() as u64))
 }
 
-/// Reading an encoding: how many numbers its row has.
-pub fn read(order: u64, bytes: &[u8], output: &mut [u32]) -> Answer<u64> {
-    let row = match row_of(order, bytes) {
+/// A row that was read, in the output: how many numbers it has; 5 where the output is shorter.
+fn handed_over(row: Result<Vec<u32>, Refusal>, output: &mut [u32]) -> Answer<u64> {
+    let row = match row {
         Ok(row) => row,
         Err(refusal) => return Answer::no(refusal),
     };
@@ -277,6 +282,11 @@ pub fn read(order: u64, bytes: &[u8], output: &mut [u32]) -> Answer<u64> {
     }
     output[..row.len()].copy_from_slice(&row);
     Answer::yes(row.len() as u64)
+}
+
+/// Reading an encoding: how many numbers its row has.
+pub fn read(order: u64, bytes: &[u8], output: &mut [u32]) -> Answer<u64> {
+    handed_over(row_of(order, bytes), output)
 }
 
 /// Reading with the byte reader: an encoding of order 3, with no check of an order.
@@ -440,17 +450,7 @@ pub fn dense_row_of(stoppers: u64, bytes: &[u8]) -> Result<Vec<u32>, Refusal> {
     }
     let s = stoppers as usize;
     let (codewords, rest) = dense_parse(s, bytes);
-    let mut row = Vec::new();
-    for (place, codeword) in codewords.iter().enumerate() {
-        if place == MAX_COUNT {
-            return Err(refusal(4));
-        }
-        let n = dense_number(s, codeword);
-        if n > MAX_NUMBER {
-            return Err(refusal_at(7, place));
-        }
-        row.push(n as u32);
-    }
+    let row = legal_row(codewords.iter().map(|codeword| dense_number(s, codeword)))?;
     if !rest.is_empty() {
         return Err(refusal(17));
     }
@@ -478,15 +478,7 @@ pub fn dense_write(stoppers: u64, row: &[u32], output: &mut [u8]) -> Answer<u64>
 
 /// Reading a row in the dense code: how many numbers it has.
 pub fn dense_read(stoppers: u64, bytes: &[u8], output: &mut [u32]) -> Answer<u64> {
-    let row = match dense_row_of(stoppers, bytes) {
-        Ok(row) => row,
-        Err(refusal) => return Answer::no(refusal),
-    };
-    if output.len() < row.len() {
-        return Answer::no(refusal(5));
-    }
-    output[..row.len()].copy_from_slice(&row);
-    Answer::yes(row.len() as u64)
+    handed_over(dense_row_of(stoppers, bytes), output)
 }
 
 // ---- The row index ----

@@ -1,13 +1,14 @@
 -- Reading by any code: what its contents are refused for, what is known of an encoding that is read, and how its row goes to the output.
 use mathlib.Core.Path.{_≡_, refl, sym, ap, _∙_}
-use mathlib.Core.Bool.{Bool, true, false}
+use mathlib.Core.Bool.{Bool, true, false, not}
 use mathlib.Core.List.{List, _∷_, _++_}
 use Prim.Native.Nat.{ℕ, _≤_, _<_}
 use native.Mathlib.Omega.{arith}
 use lib.Dec.{ltb}
 use lib.ListN.{length, take, drop, length-take}
-use borrow.Author.Tests.{lt-ltb, le-ltb, ltb-false}
+use borrow.Author.Tests.{lt-ltb, le-ltb, ltb-false, not-false}
 use Rattle.lists.specs.Lists.{All}
+use Rattle.calls.specs.declared.Refusal.{Refusal}
 use Rattle.calls.specs.declared.Refusal.the-variants.{TooManyBytes, TooManyCodewords, NoRoom, TooLarge}
 use Rattle.calls.specs.declared.CountAnswer.{CountAnswer}
 use Rattle.calls.specs.declared.CountAnswer.the-variants.{Count, Refused}
@@ -84,19 +85,6 @@ module _ (c : Code) (limit : ℕ) (s row : List ℕ) where
 
 -- ## The row and the output
 
--- what is accepted of an output with so much room
-pub counted-is : (d : Outcome (List ℕ)) (room n : ℕ) → andThen d (counted room) ≡ accepted n
-    → (row : List ℕ) × (d ≡ accepted row) × (n ≡ length row) × (length row ≤ room)
-counted-is d room n e =
-    let t = then-passed d (counted room) n e in
-    let p = check-passed NoRoom (ltb room (length (t .0))) _ n (t .2) in
-    (t .0, t .1, sym (accepted-one (p .1)), ltb-false room (length (t .0)) (p .0))
-
--- and the output then
-pub counted-row : (row before : List ℕ) → length row ≤ length before
-    → (counted (length before) row ≡ accepted (length row)) × (buffer (counted (length before) row) row before ≡ row ++ drop (length row) before)
-counted-row row before h = simp (le-ltb (length before) (length row) h) (refl, refl)
-
 -- a list that begins with the row has room for it
 pub holds-row : (d : Outcome (List ℕ)) (list : List ℕ) (a : CountAnswer) → Scanned d a list → Holds a (length list)
 holds-row (accepted row) list (Count n) s = omega (arith, accepted-one (s .0), ap length (s .1), length-take (length row) list)
@@ -117,8 +105,8 @@ written-all : (d : Outcome (List ℕ)) (room : ℕ) (list before ns : List ℕ) 
 written-all (accepted row) room list before ns b is = rw (← is row refl) (written (ltb room (length row)) row list before b)
 written-all (refused r) room list before ns b is = refl
 
--- A row that a scan stored in a list, delivered, is what reading answers and leaves, where ns is all that the scan can find
-pub delivered-row : (d : Outcome (List ℕ)) (ns before list after : List ℕ) (scanned a : CountAnswer) → ((row : List ℕ) → d ≡ accepted row → row ≡ ns)
+-- a row that a scan stored in a list, delivered, is what reading answers and leaves, where ns is all that the scan can find
+delivered-row : (d : Outcome (List ℕ)) (ns before list after : List ℕ) (scanned a : CountAnswer) → ((row : List ℕ) → d ≡ accepted row → row ≡ ns)
     → Scanned d scanned list → Delivers scanned list before a after
     → let o = andThen d (counted (length before)) in (countOutcome a ≡ o) × (after ≡ buffer o ns before)
 delivered-row d ns before list after scanned a is f w =
@@ -127,3 +115,36 @@ delivered-row d ns before list after scanned a is f w =
       same,
       w .1 ∙ ap (λ (x : Outcome ℕ). buffer x (take (answerResults 0 x) list) before) same ∙ written-all d (length before) list before ns (f .1) is,
     )
+
+-- ## A call that checks what it was asked for, and reads
+
+-- `good` is its check, which is refused as r
+module _ (r : Refusal) (good : Bool) (c : Code) (limit : ℕ) (s : List ℕ) where
+  abbrev called : ℕ → Outcome ℕ
+  called room = check r (not good) (andThen (decode c limit s) (counted room))
+
+  abbrev leaves : List ℕ → List ℕ
+  leaves before = buffer (called (length before)) (c .numbers s) before
+
+  pub called-is : (room n : ℕ) → called room ≡ accepted n
+      → (good ≡ true) × ((row : List ℕ) × (decode c limit s ≡ accepted row) × (n ≡ length row) × (length row ≤ room))
+  called-is room n e =
+      let p = check-passed r (not good) _ n e in
+      let t = then-passed (decode c limit s) (counted room) n (p .1) in
+      let q = check-passed NoRoom (ltb room (length (t .0))) _ n (t .2) in
+      (not-false good (p .0), (t .0, t .1, sym (accepted-one (q .1)), ltb-false room (length (t .0)) (q .0)))
+
+  module _ (before : List ℕ) where
+    pub called-refused : good ≡ false → (refused r ≡ called (length before)) × (before ≡ leaves before)
+    called-refused g = rw g (refl, refl)
+
+    module _ (g : good ≡ true) (positive : All (λ n. 1 ≤ n) (c .numbers s)) where
+      pub called-row : (row : List ℕ) → decode c limit s ≡ accepted row → length row ≤ length before
+          → (called (length before) ≡ accepted (length row)) × (leaves before ≡ row ++ drop (length row) before)
+      called-row row e h =
+          rw (g, e, ← decode-is c limit s row positive e .is) (simp (le-ltb (length before) (length row) h) (refl, refl))
+
+      pub called-delivered : (list after : List ℕ) (scanned a : CountAnswer) → Scanned (decode c limit s) scanned list → Delivers scanned list before a after
+          → (countOutcome a ≡ called (length before)) × (after ≡ leaves before)
+      called-delivered list after scanned a f w =
+          rw g (delivered-row (decode c limit s) (c .numbers s) before list after scanned a (λ row e. decode-is c limit s row positive e .is) f w)

@@ -1,23 +1,23 @@
 -- When an encoding is read and what then is known of it; the answers of a reader.
-use mathlib.Core.Path.{_≡_, refl}
-use mathlib.Core.Bool.{Bool, true, false, not}
+use mathlib.Core.Path.{_≡_}
+use mathlib.Core.Bool.{Bool, true, false}
 use mathlib.Core.List.{List, _++_}
 use Prim.Native.Nat.{ℕ, _≤_, _<_}
 use native.Mathlib.Omega.{arith}
 use lib.Dec.{leb}
 use lib.ListN.{length, drop}
-use borrow.Author.Tests.{leb-false, not-false}
+use borrow.Author.Tests.{leb-false}
 use Rattle.bits.specs.Bits.{unpack, count}
 use Rattle.codes.specs.Parse.{rest}
-use Rattle.fibonacci.specs.Encoding.{parse, numbers}
+use Rattle.fibonacci.specs.Encoding.{parse}
 use Rattle.calls.specs.declared.Refusal.the-variants.{BadOrder}
 use Rattle.calls.specs.declared.CountAnswer.{CountAnswer}
 use Rattle.calls.specs.Calls.{accepted, refused}
 use Rattle.calls.specs.Limits.{isOrder, Order, maxNumber}
 use Rattle.calls.specs.Reading.{decode}
 use Rattle.calls.specs.Leaves.{Scanned, Delivers}
-use Rattle.calls.proofs.Checks.{neither, order-is, is-order, check-passed}
-use Rattle.calls.proofs.Decoding.{Decoded, counted-is, counted-row, delivered-row}
+use Rattle.calls.proofs.Checks.{neither, order-is, is-order}
+use Rattle.calls.proofs.Decoding.{Decoded, called-is, called-refused, called-row, called-delivered}
 use Rattle.calls.proofs.Decoding as calls
 use Rattle.reading.specs.Reading.{fibonacci, read, readInto, ReadPromise}
 use Rattle.reading.proofs.Checking.{numbers-positive}
@@ -40,22 +40,20 @@ module _ (m limit : ℕ) (s row : List ℕ) where
 pub read-is : (m : ℕ) (s : List ℕ) (room n : ℕ) → read m s room ≡ accepted n
     → Order m × ((row : List ℕ) × (decode (fibonacci m) maxNumber s ≡ accepted row) × (n ≡ length row) × (length row ≤ room))
 unfolding read
-read-is m s room n e =
-    let p = check-passed BadOrder (not (isOrder m)) _ n e in
-    (order-is m (not-false _ (p .0)), counted-is (decode (fibonacci m) maxNumber s) room n (p .1))
+read-is m s room n e = let x = called-is BadOrder (isOrder m) (fibonacci m) maxNumber s room n e in (order-is m (x .0), x .1)
 
 module _ (m : ℕ) (s before : List ℕ) where
   pub read-row : Order m → (row : List ℕ) → decode (fibonacci m) maxNumber s ≡ accepted row → length row ≤ length before
       → (read m s (length before) ≡ accepted (length row)) × (readInto m s before ≡ row ++ drop (length row) before)
   unfolding read readInto
-  read-row o row e h = rw (is-order m o, e, ← decode-is m maxNumber s row e .is) (counted-row row before h)
+  read-row o = called-row BadOrder (isOrder m) (fibonacci m) maxNumber s before (is-order m o) (numbers-positive m (unpack s))
 
   pub read-order : isOrder m ≡ false → (refused BadOrder ≡ read m s (length before)) × (before ≡ readInto m s before)
   unfolding read readInto
-  read-order o = rw o (refl, refl)
+  read-order = called-refused BadOrder (isOrder m) (fibonacci m) maxNumber s before
 
   pub delivered-read : (list after : List ℕ) (scanned a : CountAnswer) → isOrder m ≡ true
       → Scanned (decode (fibonacci m) maxNumber s) scanned list → Delivers scanned list before a after → ReadPromise m s before a after
   unfolding read readInto
-  delivered-read list after scanned a o f w =
-      rw o (delivered-row (decode (fibonacci m) maxNumber s) (numbers m (unpack s)) before list after scanned a (λ row e. decode-is m maxNumber s row e .is) f w)
+  delivered-read list after scanned a o =
+      called-delivered BadOrder (isOrder m) (fibonacci m) maxNumber s before o (numbers-positive m (unpack s)) list after scanned a
