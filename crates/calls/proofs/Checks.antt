@@ -8,7 +8,7 @@ use native.Mathlib.Numerals.{add-one}
 use native.Mathlib.Decide.{decLe}
 use lib.Dec.{leb, ltb, eqb}
 use lib.ListN.{length, getD, drop}
-use lib.Seq.{drop-cons}
+use Rattle.lists.proofs.Lists.{drop-next}
 use borrow.Author.Tests.{le-leb, lt-leb, leb-true, le-ltb, ltb-false, ne-eqb, eqb-false}
 use Rattle.lists.specs.Lists.{All}
 use Rattle.calls.specs.declared.Refusal.{Refusal}
@@ -170,7 +170,7 @@ each-refused fault limit place (n ∷ row) x r next e =
 -- number by number, with n at place i
 module _ (fault : ℕ → Refusal) (limit : ℕ) (row : List ℕ) (i n : ℕ) (h : i < length row) (e : n ≡ getD row i 0) where
   left : drop i row ≡ n ∷ drop (i + 1) row
-  left = rw (add-one, e) (drop-cons row i 0 h)
+  left = drop-next row i 0 h e
 
   pub each-more : {A : Type 0} (next : Outcome A) → isNumber limit n ≡ true
       → checkEach fault limit i (drop i row) next ≡ checkEach fault limit (i + 1) (drop (i + 1) row) next

@@ -1,5 +1,5 @@
 -- Reading by any code: what its contents are refused for, what is known of an encoding that is read, and how its row goes to the output.
-use mathlib.Core.Path.{_≡_, refl, sym, ap, _∙_}
+use mathlib.Core.Path.{_≡_, refl, sym, ap, ap₂, _∙_}
 use mathlib.Core.Bool.{Bool, true, false, not}
 use mathlib.Core.List.{List, _∷_, _++_}
 use Prim.Native.Nat.{ℕ, _≤_, _<_}
@@ -148,3 +148,14 @@ module _ (r : Refusal) (good : Bool) (c : Code) (limit : ℕ) (s : List ℕ) whe
           → (countOutcome a ≡ called (length before)) × (after ≡ leaves before)
       called-delivered list after scanned a f w =
           rw g (delivered-row (decode c limit s) (c .numbers s) before list after scanned a (λ row e. decode-is c limit s row positive e .is) f w)
+
+  -- what is accepted is the numbers of the code, and their count
+  pub called-returns : All (λ n. 1 ≤ n) (c .numbers s) → (before : List ℕ) (n : ℕ) → called (length before) ≡ accepted n
+      → (n ≡ length (c .numbers s)) × (leaves before ≡ c .numbers s ++ drop n before)
+  called-returns positive before n e =
+      let i = called-is (length before) n e in
+      let row = i .1 .0 in
+      let same : row ≡ c .numbers s = decode-is c limit s row positive (i .1 .1) .is in (
+        i .1 .2 ∙ ap length same,
+        called-row before (i .0) positive row (i .1 .1) (i .1 .3) .1 ∙ ap₂ (λ (x : List ℕ) (k : ℕ). x ++ drop k before) same (sym (i .1 .2)),
+      )

@@ -23,6 +23,11 @@ pub record IsCode {A : Type 0} (Codeword Rest : List A → Type 0) (codeword : �
   -- the empty string is a rest
   pub none : Rest []
 
+-- numbers from 1 up are those of any codewords
+pub all-positive : {A : Type 0} (number : List A → ℕ) → ((w : List A) → 1 ≤ number w) → (ws : List (List A)) → Positive (map number ws)
+all-positive number h [] = tt
+all-positive number h (w ∷ ws) = (h w, all-positive number h ws)
+
 -- ## The string of a row
 
 module _ {A : Type 0} (codeword : ℕ → List A) where

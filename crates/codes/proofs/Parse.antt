@@ -15,6 +15,14 @@ module _ {A : Type 0} where
   unfolding flatten
   prepend-joined w (parsed ws r) = append-assoc w (flatten ws) r
 
+  -- ## Codewords and rest of it
+
+  pub prepend-codewords : (w : List A) (s : Parse A) → codewords (prepend w s) ≡ w ∷ codewords s
+  prepend-codewords w (parsed ws r) = refl
+
+  pub prepend-rest : (w : List A) (s : Parse A) → rest (prepend w s) ≡ rest s
+  prepend-rest w (parsed ws r) = refl
+
   -- ## Symbols in front
 
   pub push-prepend : (a : A) (w : List A) (s : Parse A) → push a (prepend w s) ≡ prepend (a ∷ w) s
@@ -45,10 +53,7 @@ module _ {A : Type 0} where
 
   pub onto-codewords : (ws : List (List A)) (s : Parse A) → codewords (onto ws s) ≡ ws ++ codewords s
   onto-codewords [] s = refl
-  onto-codewords (w ∷ ws) s = codewords-prepend w (onto ws s) ∙ ap (λ (l : List (List A)). w ∷ l) (onto-codewords ws s)
-    where
-      codewords-prepend : (w : List A) (s : Parse A) → codewords (prepend w s) ≡ w ∷ codewords s
-      codewords-prepend w (parsed ws r) = refl
+  onto-codewords (w ∷ ws) s = prepend-codewords w (onto ws s) ∙ ap (λ (l : List (List A)). w ∷ l) (onto-codewords ws s)
 
   pub onto-parsed : (ws : List (List A)) (r : List A) → onto ws (parsed [] r) ≡ parsed ws r
   onto-parsed [] r = refl

@@ -6,7 +6,8 @@ use Prim.Native.Nat.{ℕ, _+_, _*_, _≤_, _<_}
 use native.Mathlib.Omega.{arith}
 use native.Mathlib.Numerals.{add-one}
 use lib.ListN.{length, getD, take, drop, length-append, take-append-drop, drop-of-length-le}
-use lib.Seq.{take-suc, take-all, drop-cons}
+use lib.Seq.{take-suc, take-all}
+use Rattle.lists.proofs.Lists.{drop-next}
 use Rattle.bits.specs.Bits.{byteCount}
 use Rattle.bits.specs.Leaves.{putTo, putAt}
 use Rattle.bits.proofs.Put.{Filled, filled-none, filled-more, filled-end}
@@ -22,7 +23,7 @@ use Rattle.fibonacci.proofs.Rows.{bits-append, bits-snoc}
 
 module _ (row : List ℕ) (i n : ℕ) (h : i < length row) (e : n ≡ getD row i 0) where
   left : drop i row ≡ n ∷ drop (i + 1) row
-  left = rw (add-one, e) (drop-cons row i 0 h)
+  left = drop-next row i 0 h e
 
   bits-left : (m : ℕ) → rowBits m (drop i row) ≡ codeword m n ++ rowBits m (drop (i + 1) row)
   unfolding rowBits flatten

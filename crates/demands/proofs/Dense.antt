@@ -14,14 +14,15 @@ use Rattle.calls.specs.Calls.{accepted}
 use Rattle.calls.specs.Limits.{isNumber, Legal, maxNumber, maxCount}
 use Rattle.calls.specs.Reading.{contents, decode, checkFinished}
 use Rattle.calls.proofs.Checks.{number-is, is-number, positive}
-use Rattle.calls.proofs.Decoding.{decode-accepts}
+use Rattle.calls.specs.declared.Refusal.the-variants.{BadStoppers}
+use Rattle.calls.proofs.Decoding.{decode-accepts, called-returns}
 use Rattle.dense.specs.Code.{first, value, number, stem, codeword}
 use Rattle.dense.specs.Encoding.{encoding, parse, numbers}
 use Rattle.dense.specs.Limits.{isStoppers, Stoppers, continuers}
 use Rattle.dense.proofs.Limits.{bytes-below}
 use Rattle.dense.proofs.Numbers.{number-positive, codeword-good, codeword-only, number-digits, number-length}
 use Rattle.dense.proofs.Parse.{parse-is}
-use Rattle.dense.proofs.Rows.{parse-only, encoding-parse, encoding-read, numbers-bytes, rows-apart, rows-begin}
+use Rattle.dense.proofs.Rows.{parse-only, encoding-parse, encoding-read, numbers-bytes, rows-apart, rows-begin, numbers-positive}
 use Rattle.dense.proofs.Long.{codeword-long, rows-fit}
 use Rattle.dense_encoder.specs.Writing.{writeDense, writeDenseInto}
 use Rattle.dense_encoder.proofs.Writing.{Writable, write-is, write-accepts, write-into}
@@ -106,12 +107,8 @@ module _ (s : ℕ) where
       rw back (decoded-written b row before (i .0) y (i .1 .1) l)
 
   returns-parse : ReturnsParse (numbers s c) (readDense s) (readDenseInto s)
-  returns-parse b before count e =
-      let i = read-is s b (length before) count e in
-      let same : i .1 .0 ≡ numbers s c b = decode-is s maxNumber b (i .1 .0) (i .1 .1) .is in (
-        i .1 .2 ∙ ap length same,
-        read-row s b before (i .0) (i .1 .0) (i .1 .1) (i .1 .3) .1 ∙ ap₂ (λ (r : List ℕ) (k : ℕ). r ++ drop k before) same (sym (i .1 .2)),
-      )
+  unfolding readDense readDenseInto
+  returns-parse b = called-returns BadStoppers (isStoppers s) (dense s) maxNumber b (numbers-positive s c b)
 
   written-apart : (row other before after : List ℕ) (bytes : ℕ) → writeDense s row (length before) ≡ accepted bytes → writeDense s other (length after) ≡ accepted bytes
       → take bytes (writeDenseInto s row before) ≡ take bytes (writeDenseInto s other after) → row ≡ other

@@ -1,5 +1,5 @@
 -- The two readers agree, and return the numbers of the parse.
-use mathlib.Core.Path.{_≡_, refl, sym, ap, ap₂, _∙_}
+use mathlib.Core.Path.{_≡_, refl, sym, ap, _∙_}
 use mathlib.Core.Bool.{Bool}
 use mathlib.Core.List.{List, _++_}
 use Prim.Native.Nat.{ℕ, _*_, _/_}
@@ -10,13 +10,15 @@ use lib.ListN.{length, drop}
 use borrow.Author.Tests.{lt-ltb, le-ltb}
 use Rattle.bits.specs.Bits.{unpack}
 use Rattle.fibonacci.specs.Encoding.{numbers}
-use Rattle.calls.specs.declared.Refusal.the-variants.{NoRoom}
+use Rattle.calls.specs.declared.Refusal.the-variants.{BadOrder, NoRoom}
 use Rattle.calls.specs.Calls.{accepted, check}
-use Rattle.calls.specs.Limits.{maxNumber}
+use Rattle.calls.specs.Limits.{isOrder, maxNumber}
 use Rattle.calls.specs.Reading.{decode}
 use Rattle.calls.proofs.Checks.{then-same}
+use Rattle.calls.proofs.Decoding.{called-returns}
+use Rattle.reading.proofs.Checking.{numbers-positive}
 use Rattle.reading.specs.Reading.{fibonacci, read, readInto}
-use Rattle.reading.proofs.Decoding.{decode-is, read-is, read-row}
+use Rattle.reading.proofs.Decoding.{decode-is, read-is}
 use Rattle.table_decoder.specs.Reading.{readTable, readTableInto, rowBytes, readBytes, readBytesInto}
 use Rattle.table_decoder.proofs.Answering.{order-3, table-decode, table-read, table-into, bytes-long}
 use Rattle.demands.specs.Readers.{ReturnsParse, TwoReaders}
@@ -24,13 +26,8 @@ use Rattle.demands.specs.Readers.{ReturnsParse, TwoReaders}
 -- ## The numbers of the parse
 
 read-parse : (m : ℕ) → ReturnsParse (λ s. numbers m (unpack s)) (read m) (readInto m)
-read-parse m s before n e =
-    let i = read-is m s (length before) n e in
-    let row = i .1 .0 in
-    let same : row ≡ numbers m (unpack s) = decode-is m maxNumber s row (i .1 .1) .is in (
-      i .1 .2 ∙ ap length same,
-      read-row m s before (i .0) row (i .1 .1) (i .1 .3) .1 ∙ ap₂ (λ (r : List ℕ) (k : ℕ). r ++ drop k before) same (sym (i .1 .2)),
-    )
+unfolding read readInto
+read-parse m s = called-returns BadOrder (isOrder m) (fibonacci m) maxNumber s (numbers-positive m (unpack s))
 
 table-parse : ReturnsParse (λ s. numbers 3 (unpack s)) readTable readTableInto
 table-parse s before n e =

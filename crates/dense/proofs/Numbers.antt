@@ -4,22 +4,14 @@ use mathlib.Core.List.{List, [], _∷_, _++_, append-assoc}
 use mathlib.Core.Logic.{_↔_}
 use Prim.Native.Nat.{ℕ, zero, suc, _+_, _-_, _*_, _/_, _%_, _^_, _≤_, _<_}
 use native.Mathlib.Omega.{arith}
-use native.Mathlib.Nat.{add-zero, zero-add, pow-zero, pow-suc, div-le-self, mod-lt, div-add-mod', mul-add-div-right, div-eq-of-lt, mul-le-mul-right, le-mul-of-pos-right}
-use native.Mathlib.Decide.{decLe}
+use native.Mathlib.Nat.{add-zero, zero-add, pow-zero, pow-suc, div-le-self, mod-lt, div-add-mod', mul-le-mul-right, le-mul-of-pos-right}
 use lib.ListN.{length, length-append}
 use lib.Seq.{take-append-seam, getD-append-seam}
+use lib.Arith.{digits-div, digits-mod}
 use Rattle.lists.specs.Lists.{All}
+use Rattle.codes.proofs.Lengths.{rising, Between, between-one}
 use Rattle.dense.specs.Code.{Continuer, Codeword, first, value, number, stem, codeword}
 use Rattle.dense.specs.Leaves.{index}
-
--- ## Division
-
-module _ (c : ℕ) (pos : 1 ≤ c) (q d : ℕ) (h : d < c) where
-  pub whole : (q * c + d) / c ≡ q
-  whole = omega (arith, mul-add-div-right {m = c} pos q d, div-eq-of-lt h)
-
-  pub left : (q * c + d) % c ≡ d
-  left = omega (arith, div-add-mod' (q * c + d) c, ap (λ (x : ℕ). x * c) whole)
 
 -- ## Strings of continuers, counted from 0
 
@@ -137,7 +129,7 @@ index-stem s c f y (b ∷ u) t p a h =
     let back : s + (b - s) ≡ b = omega arith in
     index-stem s c f (suc (y * c + (b - s))) u t p (a .1) h
     ∙ stem-next s c f (y * c + (b - s)) (u ++ t) (omega arith)
-    ∙ rw (whole c p y (b - s) d, left c p y (b - s) d, back) refl
+    ∙ rw (digits-div y d, digits-mod y d, back) refl
 
 -- ## The codeword of a number
 
@@ -167,7 +159,7 @@ module _ (s c : ℕ) (ps : 1 ≤ s) (pc : 1 ≤ c) where
       let few : y ≤ n = omega (arith, le-mul-of-pos-right {m = s} y ps) in
       k .ends ∙ sym (stem-none s c n (k .stem ++ (k .last ∷ [])))
       ∙ sym (index-stem s c n 0 (k .stem) (k .last ∷ []) pc (k .leading) few)
-      ∙ rw (x, whole s ps y (k .last) (k .stops), left s ps y (k .last) (k .stops)) refl
+      ∙ rw (x, digits-div y (k .stops), digits-mod y (k .stops)) refl
 
 -- ## Numbers by the length of their codewords
 
@@ -189,7 +181,7 @@ value-below s c v (b ∷ u) a =
     )
 
 -- a codeword with k continuers is in the span of k
-number-span : (s c : ℕ) (w : List ℕ) (k : Codeword s c w) → (first s c (length (k .stem)) ≤ number s c w) × (number s c w < first s c (suc (length (k .stem))))
+number-span : (s c : ℕ) (w : List ℕ) (k : Codeword s c w) → Between (first s c) (number s c w) (length (k .stem))
 unfolding first
 number-span s c w k =
     let j : ℕ = length (k .stem) in
@@ -198,28 +190,17 @@ number-span s c w k =
     let m = mul-le-mul-right s v in
     rw (k .ends) (omega (arith, d), omega (arith, d, m, k .stops))
 
-first-grows : (s c i k : ℕ) → first s c i ≤ first s c (i + k)
+first-step : (s c k : ℕ) → first s c k ≤ first s c (suc k)
 unfolding first
-first-grows s c i zero = rw (add-zero i) (omega arith)
-first-grows s c i (suc k) = let e : i + suc k ≡ suc (i + k) = omega arith in rw e (omega (arith, first-grows s c i k))
+first-step s c k = omega arith
 
 pub first-up : (s c i k : ℕ) → i ≤ k → first s c i ≤ first s c k
-first-up s c i k h = let e : i + (k - i) ≡ k = omega arith in rw (← e) (first-grows s c i (k - i))
+first-up s c i k h = rising (first s c) (first-step s c) h
 
-pub number-length : (s c : ℕ) (w : List ℕ) (k : ℕ) → Codeword s c w → (length w ≡ suc k) ↔ ((first s c k ≤ number s c w) × (number s c w < first s c (suc k)))
-number-length s c w k x = (
-  λ e.
-      let j : length (x .stem) ≡ k = omega (arith, ap length (x .ends), length-append (x .stem) (x .last ∷ [])) in
-      rw j at (number-span s c w x),
-  λ h.
-      let p = number-span s c w x in
-      let l : length w ≡ suc (length (x .stem)) = omega (arith, ap length (x .ends), length-append (x .stem) (x .last ∷ [])) in
-      elim (decLe (suc k) (length (x .stem))) [
-        | yes g ↦ absurd (omega (arith, first-up s c (suc k) (length (x .stem)) g))
-        | no g ↦
-            elim (decLe (suc (length (x .stem))) k) [
-              | yes g' ↦ absurd (omega (arith, first-up s c (suc (length (x .stem))) k g'))
-              | no g' ↦ omega arith
-            ]
-      ],
-)
+pub number-length : (s c : ℕ) (w : List ℕ) (k : ℕ) → Codeword s c w → (length w ≡ suc k) ↔ Between (first s c) (number s c w) k
+number-length s c w k x =
+    let l : length w ≡ suc (length (x .stem)) = omega (arith, ap length (x .ends), length-append (x .stem) (x .last ∷ [])) in
+    let span = number-span s c w x in (
+      λ e. let j : length (x .stem) ≡ k = omega arith in rw j at span,
+      λ h. l ∙ ap suc (between-one (first s c) (first-step s c) (number s c w) (length (x .stem)) k span h),
+    )

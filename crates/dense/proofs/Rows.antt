@@ -1,12 +1,12 @@
 -- The dense code is a code like every other: what follows of its rows and their bytes.
 use mathlib.Core.Path.{_≡_, refl, sym, ap, _∙_}
-use mathlib.Core.List.{List, [], _∷_, _++_, append-nil, map, IsPrefix}
+use mathlib.Core.List.{List, [], _++_, append-nil, map, IsPrefix}
 use mathlib.Core.Logic.{_↔_}
 use Prim.Native.Nat.{ℕ, _+_, _≤_, _<_}
 use Rattle.lists.specs.Lists.{All}
 use Rattle.codes.specs.Rows.{Positive}
 use Rattle.codes.specs.Parse.{Parse, parsed, codewords, rest}
-use Rattle.codes.proofs.Codes.{IsCode, string-append, parse-string}
+use Rattle.codes.proofs.Codes.{IsCode, all-positive, string-append, parse-string}
 use Rattle.codes.proofs.Codes as codes
 use Rattle.dense.specs.Code.{Codeword, number, codeword}
 use Rattle.dense.specs.Encoding.{encoding, Rest, IsParse, parse, numbers}
@@ -57,8 +57,4 @@ module _ (s c : ℕ) (ps : 1 ≤ s) (pc : 1 ≤ c) where
 -- the numbers of codewords are from 1 up
 pub numbers-positive : (s c : ℕ) (b : List ℕ) → Positive (numbers s c b)
 unfolding numbers
-numbers-positive s c b = go (codewords (parse s b))
-  where
-    go : (ws : List (List ℕ)) → Positive (map (number s c) ws)
-    go [] = tt
-    go (w ∷ ws) = (number-positive s c w, go ws)
+numbers-positive s c b = all-positive (number s c) (number-positive s c) (codewords (parse s b))

@@ -3,13 +3,14 @@ use mathlib.Core.Path.{_≡_, refl, sym, ap, subst, _∙_}
 use mathlib.Core.List.{List, [], _∷_, _++_, append-assoc, map}
 use Prim.Native.Nat.{ℕ, zero, suc, _+_, _-_, _*_, _≤_, _<_}
 use native.Mathlib.Omega.{arith}
-use native.Mathlib.Numerals.{add-one}
 use native.Mathlib.Nat.{le-mul-of-pos-right}
 use native.Mathlib.Decide.{decLe}
 use lib.ListN.{length, getD, drop, length-append, length-drop}
-use lib.Seq.{drop-cons, drop-drop, drop-length, getD-drop}
-use Rattle.lists.proofs.Each.{all-append}
-use Rattle.codes.specs.Parse.{Parse, parsed, codewords, rest, prepend}
+use lib.Seq.{drop-drop, drop-length, getD-drop}
+use Rattle.lists.proofs.Lists.{drop-next}
+use Rattle.lists.proofs.Each.{all-append, all-drop}
+use Rattle.codes.specs.Parse.{Parse, codewords, rest}
+use Rattle.codes.proofs.Parse.{prepend-codewords, prepend-rest}
 use Rattle.dense.specs.Code.{number}
 use Rattle.dense.specs.Encoding.{Rest, parse, numbers}
 use Rattle.dense.specs.Limits.{continuers}
@@ -26,16 +27,14 @@ module _ (s : ℕ) (u : List ℕ) (go : Rest s u) (z : ℕ) (t : List ℕ) (stop
   abbrev c : ℕ
   c = continuers s
 
-  prepended : (w : List ℕ) (p : Parse ℕ) → (map (number s c) (codewords (prepend w p)) ≡ number s c w ∷ map (number s c) (codewords p)) × (rest (prepend w p) ≡ rest p)
-  prepended w (parsed ws r) = (refl, refl)
-
   pub front-is : (numbers s c (u ++ (z ∷ t)) ≡ suc (index s c 0 u * s + z) ∷ numbers s c t) × (rest (parse s (u ++ (z ∷ t))) ≡ rest (parse s t))
   unfolding numbers
   front-is =
       let p = parse-stem s u z t go stop in
-      let w = prepended (u ++ (z ∷ [])) (parse s t) in (
-        ap (λ (x : Parse ℕ). map (number s c) (codewords x)) p ∙ w .0 ∙ ap (λ (n : ℕ). n ∷ map (number s c) (codewords (parse s t))) (number-index s c u z),
-        ap rest p ∙ w .1,
+      let w : List ℕ = u ++ (z ∷ []) in (
+        ap (λ (x : Parse ℕ). map (number s c) (codewords x)) p ∙ ap (map (number s c)) (prepend-codewords w (parse s t))
+            ∙ ap (λ (n : ℕ). n ∷ map (number s c) (codewords (parse s t))) (number-index s c u z),
+        ap rest p ∙ prepend-rest w (parse s t),
       )
 
 -- bytes with a stopper have a first one
@@ -52,10 +51,6 @@ first-stopper s (x ∷ l) (suc j) h e =
     ]
 
 -- ## From a place on
-
--- the byte x at place i, and those after it
-here : (b : List ℕ) (i x : ℕ) → i < length b → x ≡ getD b i 0 → drop i b ≡ x ∷ drop (i + 1) b
-here b i x h e = rw (add-one, e) (drop-cons b i 0 h)
 
 module _ (s : ℕ) (b : List ℕ) (i : ℕ) (f : Finished s b i) where
   pub finished-within : i < length b
@@ -78,18 +73,13 @@ pub rest-none : (s : ℕ) (b : List ℕ) → Rest s (drop (length b) b)
 rest-none s b = rw (drop-length b) tt
 
 pub rest-more : (s : ℕ) (b : List ℕ) (end x : ℕ) → 1 ≤ end → end ≤ length b → x ≡ getD b (end - 1) 0 → s ≤ x → Rest s (drop end b) → Rest s (drop (end - 1) b)
-rest-more s b end x h l e go more = let at : end - 1 + 1 ≡ end = omega arith in rw (here b (end - 1) x (omega arith) e, at) (go, more)
+rest-more s b end x h l e go more = let at : end - 1 + 1 ≡ end = omega arith in rw (drop-next b (end - 1) 0 (omega arith) e, at) (go, more)
 
 -- bytes without a stopper have none later
 pub rest-later : (s : ℕ) (b : List ℕ) (i end : ℕ) → end ≤ i → Rest s (drop end b) → Rest s (drop i b)
 rest-later s b i end h a =
     let at : end + (i - end) ≡ i = omega arith in
-    subst (Rest s) (drop-drop (i - end) end b ∙ ap (λ (k : ℕ). drop k b) at) (go (i - end) (drop end b) a)
-  where
-    go : (k : ℕ) (l : List ℕ) → Rest s l → Rest s (drop k l)
-    go zero l a = a
-    go (suc k) [] a = tt
-    go (suc k) (x ∷ l) a = go k l (a .1)
+    subst (Rest s) (drop-drop (i - end) end b ∙ ap (λ (k : ℕ). drop k b) at) (all-drop (λ x. s ≤ x) (i - end) (drop end b) a)
 
 -- ## What is found
 
@@ -99,7 +89,7 @@ module _ (s limit : ℕ) (b u : List ℕ) (go : Rest s u) where
       → Numbered m (i + 1) limit r → Front s limit b (u ++ drop i b) r
   front-number i x m r h e stop is told =
       let f = front-is s u go x (drop (i + 1) b) stop in
-      let at = here b i x h e in
+      let at = drop-next b i 0 h e in
       let after : suc (index s (continuers s) 0 u * s + x) ≡ m + 1 = omega arith in
       let ns = ap (λ (l : List ℕ). numbers s (continuers s) (u ++ l)) at ∙ f .0 ∙ ap (λ (k : ℕ). k ∷ numbers s (continuers s) (drop (i + 1) b)) after in
       elim (decLe limit m) [
@@ -145,7 +135,7 @@ module _ (s : ℕ) (b : List ℕ) (from y : ℕ) where
     passed-more x d h e l is =
         record {
           bytes = p .bytes ++ (x ∷ []);
-          are = p .are ∙ ap (λ (t : List ℕ). p .bytes ++ t) (here b i x h e) ∙ sym (append-assoc (p .bytes) (x ∷ []) (drop (i + 1) b));
+          are = p .are ∙ ap (λ (t : List ℕ). p .bytes ++ t) (drop-next b i 0 h e) ∙ sym (append-assoc (p .bytes) (x ∷ []) (drop (i + 1) b));
           go = all-append (λ y. s ≤ y) (p .bytes) (x ∷ []) (p .go) (l, tt);
           string = rw (index-append s (continuers s) y (p .bytes) (x ∷ []), ← p .string) (omega arith);
         }
@@ -178,11 +168,11 @@ module _ (s limit : ℕ) (b : List ℕ) (i x : ℕ) (h : i < length b) (e : x �
     pub front-two : z < s → Numbered ((x - s + 1) * s + z) (i + 2) limit r → Front s limit b (drop i b) r
     unfolding index
     front-two stop told =
-        rw (here b i x h e)
+        rw (drop-next b i 0 h e)
         (front-number s limit b (x ∷ []) (go, tt) (i + 1) z ((x - s + 1) * s + z) r k f stop (ap (λ (j : ℕ). j * s + z) one) (rw two told))
 
     -- two begin a codeword
     pub front-more : s ≤ z → FrontAfter s limit b (i + 2) ((x - s + 1) * continuers s + (z - s + 1)) r → Front s limit b (drop i b) r
     unfolding index
     front-more l found =
-        rw (here b i x h e, here b (i + 1) z k f, two) (found (x ∷ z ∷ []) (go, (l, tt)) (omega (arith, ap (λ (m : ℕ). m * continuers s) one)))
+        rw (drop-next b i 0 h e, drop-next b (i + 1) 0 k f, two) (found (x ∷ z ∷ []) (go, (l, tt)) (omega (arith, ap (λ (m : ℕ). m * continuers s) one)))

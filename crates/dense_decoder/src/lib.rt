@@ -1,5 +1,4 @@
 // Reading bytes of the (s, c)-dense code, s from 1 to 254 and c the rest.
-ghost use mathlib.Core.Path.{_≡_};
 ghost use Prim.Native.Nat.{_≤_, _<_, min};
 ghost use lib.ListN.{length, drop};
 ghost use Rattle.calls.specs.Limits.{maxNumber, maxCount};
@@ -8,6 +7,7 @@ ghost use Rattle.calls.specs.Leaves.{Scanned};
 ghost use Rattle.dense.specs.Limits.{Stoppers};
 ghost use Rattle.dense_decoder.specs.Reading.{dense, ReadPromise};
 ghost use Rattle.dense_decoder.specs.Leaves.{Finished, FinishedBefore, Numbered, Front, FrontAfter};
+use bits::wide;
 use calls::CountAnswer;
 use calls::Refusal;
 
@@ -15,13 +15,6 @@ use calls::Refusal;
 enum Step {
     Number(u64, usize),
     Large,
-}
-
-// A byte as a number of 64 bits.
-fn wide(x: u8) -> u64
-    ensures { λ r. ⌜ (r ≡ x) × (r < 256) ⌝ }
-{
-    x as u64
 }
 
 // Where the last codeword that is finished ends: behind the last stopper.

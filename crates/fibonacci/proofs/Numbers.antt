@@ -11,9 +11,10 @@ use lib.ListN.{length, length-append, length-replicate}
 use lib.Seq.{take-at}
 use borrow.Author.Tests.{le-leb, lt-leb}
 use Rattle.lists.specs.Lists.{sum, valuesFrom}
+use Rattle.codes.proofs.Lengths.{rising, Between, between-one}
 use Rattle.fibonacci.specs.Code.{past, F, value, first, ones, runs, Codeword, Form, number, digits, size, codeword}
 use Rattle.fibonacci.proofs.Runs.{runs-false, runs-more, runs-grow, lead-ones, runs-all, runs-cut}
-use Rattle.fibonacci.proofs.Numeration.{rising, sumDown, F-suc, sumDown-suc, sumDown-zero, sumDown-none, sumDown-head, F-pos, digits-small, digits-good, free-digits, digits-append, digits-length}
+use Rattle.fibonacci.proofs.Numeration.{sumDown, F-suc, sumDown-suc, sumDown-zero, sumDown-none, sumDown-head, F-pos, digits-small, digits-good, free-digits, digits-append, digits-length}
 
 -- ## The first numbers
 
@@ -31,8 +32,11 @@ first-suc m (suc s) =
     let e : 1 + s ≡ suc s = omega arith in
     omega (arith, sum-last (F m) 1 s, ap (F m) e)
 
+first-step : (m d : ℕ) → first m d ≤ first m (suc d)
+first-step m d = omega (arith, first-suc m d)
+
 pub first-rises : (m : ℕ) {j k : ℕ} → j ≤ k → first m j ≤ first m k
-first-rises m = rising (first m) (λ d. omega (arith, first-suc m d))
+first-rises m = rising (first m) (first-step m)
 
 pub first-pos : (m d : ℕ) → 1 ≤ first m d
 unfolding first
@@ -53,18 +57,10 @@ F-first m (suc s) = omega (arith, F-suc m s, sumDown-below m s m)
 
 -- n is among the numbers whose codewords have d bits before their m ones
 abbrev pub Within : ℕ → ℕ → ℕ → Type 0
-Within m n d = (first m d ≤ n) × (n < first m (suc d))
+Within m n d = Between (first m) n d
 
 pub within-one : (m n d k : ℕ) → Within m n d → Within m n k → d ≡ k
-within-one m n d k a b =
-    elim (decLe d k) [
-      | yes l ↦
-          elim (decLe k d) [
-            | yes g ↦ omega arith
-            | no g ↦ absurd (omega (arith, first-rises m {j = suc d} {k = k} (omega arith)))
-          ]
-      | no l ↦ absurd (omega (arith, first-rises m {j = suc k} {k = d} (omega arith)))
-    ]
+within-one m n d k = between-one (first m) (first-step m) n d k
 
 size-within : (m n fuel d : ℕ) → 1 ≤ m → first m d ≤ n → n < first m d + fuel → Within m n (size m n fuel d)
 unfolding size

@@ -5,11 +5,12 @@ use mathlib.Core.List.{List, [], _∷_, _++_, reverseAux, reverse, reverse-rever
 use Prim.Native.Nat.{ℕ, zero, suc, _+_, _-_, _≤_, _<_}
 use native.Mathlib.Omega.{arith}
 use native.Mathlib.Nat.{add-zero, zero-add}
-use native.Mathlib.Decide.{decLe, le-ind}
+use native.Mathlib.Decide.{decLe}
 use lib.ListN.{length, take, length-reverse}
 use borrow.Author.Tests.{le-leb, lt-leb}
 use Rattle.lists.specs.Lists.{sum}
 use Rattle.lists.proofs.Sums.{sum-zeros}
+use Rattle.codes.proofs.Lengths.{rising}
 use Rattle.fibonacci.specs.Code.{past, F, value, leadingOnes, runs, digits}
 use Rattle.fibonacci.proofs.Runs.{runs-false, runs-true, runs-more, runs-grow}
 
@@ -40,10 +41,6 @@ pub sumDown-head : (m n i : ℕ) → F m n ≤ sumDown m n (suc i)
 unfolding F past
 sumDown-head m zero i = omega (arith, sumDown-zero m (suc i) (omega arith))
 sumDown-head m (suc n) i = omega (arith, sumDown-suc m n i)
-
--- what never falls from one place to the next never falls
-pub rising : (f : ℕ → ℕ) → ((n : ℕ) → f n ≤ f (suc n)) → {j k : ℕ} → j ≤ k → f j ≤ f k
-rising f up {j} {k} h = le-ind (λ k. f j ≤ f k) (omega arith) (λ k l ih. omega (arith, up k)) k h
 
 pub F-rises : (m : ℕ) → 1 ≤ m → {j k : ℕ} → j ≤ k → F m j ≤ F m k
 F-rises zero h = absurd (omega arith)

@@ -5,8 +5,8 @@ use Prim.Native.Nat.{ℕ, suc, _+_, _*_, _≤_, _<_}
 use native.Mathlib.Omega.{arith}
 use native.Mathlib.Numerals.{add-one}
 use lib.ListN.{length, getD, drop, length-append, drop-of-length-le}
-use lib.Seq.{sets, drop-cons}
-use Rattle.lists.proofs.Lists.{sets-then}
+use lib.Seq.{sets}
+use Rattle.lists.proofs.Lists.{drop-next, sets-then}
 use Rattle.columns.proofs.Columns.{column-length}
 use Rattle.fibonacci.specs.Code.{codeword}
 use Rattle.calls.specs.Limits.{maxNumber}
@@ -52,7 +52,7 @@ module _ (m : ℕ) (row : List ℕ) (i total : ℕ) (now old : List ℕ) (p : Li
       → new ≡ sets now (38 + 38 * i) (rowLine i n bits (total + n)) → Listed m row (i + 1) (total + n) new old
   unfolding rowLines
   listed-more n bits new h e b q s =
-      let left : drop i row ≡ n ∷ drop (i + 1) row = rw (add-one, e) (drop-cons row i 0 h) in
+      let left : drop i row ≡ n ∷ drop (i + 1) row = drop-next row i 0 h e in
       let next : 38 + 38 * (i + 1) ≡ 38 + 38 * i + length (rowLine i n bits (total + n)) = omega (arith, line-length i n bits (total + n)) in
       let rest : List ℕ = rowLines m (suc i) (total + n) (drop (i + 1) row) in
       let more : sets new (38 + 38 * (i + 1)) rest ≡ sets now (38 + 38 * i) (rowLine i n bits (total + n) ++ rest) =

@@ -1,7 +1,7 @@
 -- What holds of each element of a list.
 use mathlib.Core.List.{List, [], _∷_, _++_}
 use Prim.Native.Nat.{ℕ, zero, suc}
-use lib.ListN.{replicate}
+use lib.ListN.{drop, replicate}
 use Rattle.lists.specs.Lists.{All}
 
 module _ {A : Type 0} where
@@ -12,6 +12,11 @@ module _ {A : Type 0} where
   pub all-append : (P : A → Type 0) (l r : List A) → All P l → All P r → All P (l ++ r)
   all-append P [] r a c = c
   all-append P (x ∷ l) r a c = (a .0, all-append P l r (a .1) c)
+
+  pub all-drop : (P : A → Type 0) (k : ℕ) (l : List A) → All P l → All P (drop k l)
+  all-drop P zero l a = a
+  all-drop P (suc k) [] a = tt
+  all-drop P (suc k) (x ∷ l) a = all-drop P k l (a .1)
 
   pub all-same : (P : A → Type 0) (k : ℕ) (x : A) → P x → All P (replicate k x)
   all-same P zero x p = tt

@@ -7,7 +7,7 @@ use native.Mathlib.Omega.{arith}
 use native.Mathlib.Numerals.{add-one}
 use native.Mathlib.Nat.{add-zero, zero-add, suc-add}
 use lib.ListN.{length, getD, take, drop, set, replicate, length-append}
-use lib.Seq.{sets, take-nil, take-take, take-suc, take-all, drop-at, paste-suc}
+use lib.Seq.{sets, take-nil, take-take, take-suc, take-all, drop-cons, drop-at, paste-suc}
 use Rattle.lists.specs.Lists.{valuesFrom}
 
 module _ {A : Type 0} where
@@ -56,6 +56,9 @@ sets-append l i (x ∷ a) b =
 module _ {A : Type 0} (l : List A) (i : ℕ) (d : A) (h : i < length l) where
   pub take-next : take (i + 1) l ≡ take i l ++ (getD l i d ∷ [])
   take-next = rw add-one (take-suc l i d h)
+
+  pub drop-next : {x : A} → x ≡ getD l i d → drop i l ≡ x ∷ drop (i + 1) l
+  drop-next e = rw (add-one, e) (drop-cons l i d h)
 
   pub map-next : (f : A → Bool) → map f (take (i + 1) l) ≡ map f (take i l) ++ (f (getD l i d) ∷ [])
   map-next f = ap (map f) take-next ∙ map-append f (take i l) (getD l i d ∷ [])

@@ -13,6 +13,7 @@ use Rattle.bits.specs.Bits.{unpack, count}
 use Rattle.bits.proofs.Count.{count-append}
 use Rattle.codes.specs.Rows.{Positive}
 use Rattle.codes.specs.Parse.{Parse, parsed, codewords, rest}
+use Rattle.codes.proofs.Codes.{all-positive}
 use Rattle.fibonacci.specs.Code.{ones, value, first, number}
 use Rattle.fibonacci.specs.Encoding.{parse, numbers}
 use Rattle.calls.specs.declared.Refusal.the-variants.{BadRest}
@@ -114,8 +115,7 @@ unfolding number
 number-positive m w = omega (arith, first-pos m (length w - m))
 
 pub coded-positive : (m : ℕ) (ws : List (List Bool)) → Positive (map (number m) ws)
-coded-positive m [] = tt
-coded-positive m (w ∷ ws) = (number-positive m w, coded-positive m ws)
+coded-positive m = all-positive (number m) (number-positive m)
 
 pub numbers-positive : (m : ℕ) (b : List Bool) → Positive (numbers m b)
 unfolding numbers
