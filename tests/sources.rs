@@ -434,8 +434,8 @@ fn dense_of_001(s: &mut Sources) {
     let is_power = (1..=12).all(|bytes| (model::dense_first(128, bytes + 1) - 1).ilog2() as usize == 7 * bytes);
     s.same("001, section 3.1, codewords of up to M bytes, about 128 to the power", "M-1", if is_power { "M" } else { "M-1" });
     for (stoppers, others, words) in PAIRS {
-        s.same_number("001, tables 3 and 10, s and c", 256, (stoppers + others) as u128);
         let two = stoppers + stoppers * others;
+        s.same_number("001, tables 3 and 10, codewords of up to two bytes by s and c", two as u128, model::dense_first(stoppers, 3) - 1);
         s.says(&format!("dense-write {stoppers} {stoppers} {} {two} {} {words}", stoppers + 1, two + 1), "bytes 11;");
     }
 }
@@ -450,7 +450,7 @@ fn denser(s: &mut Sources) {
     }
 }
 
-// 003's codewords, in which bytes from c up end a codeword and those below c go on, as 001 has them. The words are numbered from 1.
+// 003's codewords by its rule, in which bytes from c up end a codeword and those below c go on; turned round they are 001's. The words are numbered from 1.
 const OF_003: [(usize, u32, &[u8]); 8] = [
     (128, 1, &[0x80]),
     (128, 2, &[0x81]),

@@ -172,7 +172,7 @@ impl Codec<'_> {
 
     // ---- Short strings ----
 
-    /// Every byte alone, behind each of some that go on, and before some.
+    /// Every byte alone, and behind the first and last byte that goes on and that ends a codeword, with a codeword's end after it and without.
     fn one_byte(&mut self, s: usize) {
         for byte in 0..=255 {
             self.dense_string(s, &[byte]);

@@ -22,7 +22,7 @@ Begins (refused r) list = Unit {0}
 abbrev pub Scanned : Outcome (List ℕ) → CountAnswer → List ℕ → Type 0
 Scanned found a list = (countOutcome a ≡ counting found) × Begins found list
 
--- A list has as many elements as were counted
+-- A list has at least as many elements as were counted
 abbrev pub Holds : CountAnswer → ℕ → Type 0
 Holds (Count n) room = n ≤ room
 Holds (Refused r) room = Unit {0}

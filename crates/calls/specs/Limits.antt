@@ -28,7 +28,7 @@ isNumber limit n = within 1 limit n
 abbrev pub Legal : ℕ → List ℕ → Type 0
 Legal limit row = All (λ n. isNumber limit n ≡ true) row
 
--- The largest number of a row, how many numbers a row has at most, and how many bytes their encoding has at most
+-- The largest number of a row, how many numbers a row has at most, and how many bytes their encoding has at most, in any order
 abbrev pub maxNumber : ℕ
 maxNumber = 4294967295
 

@@ -125,7 +125,7 @@ pub enum CountAnswer {
     Refused(Refusal),
 }
 
-// The limits of paper 01: the largest number of a row, how many numbers a row has at most, and how many bytes their encoding has at most.
+// The limits of paper 01: the largest number of a row, how many numbers a row has at most, and how many bytes their encoding has at most, in any order.
 pub const MAX_NUMBER: u64 = 4294967295;
 
 pub const MAX_COUNT: usize = 4096;
@@ -160,8 +160,8 @@ pub fn wide(x: u32) -> u64
     x as u64
 }
 
-// What a reader answers once it has scanned an encoding: the row goes from the list that the scan stored it in to the output. Requires: a list with as many
-// elements as were counted, which the readers show: the scan has stored the row there.
+// What a reader answers once it has scanned an encoding: the row goes from the list that the scan stored it in to the output. Requires: a list with at
+// least as many elements as were counted, which the readers show: the scan has stored the row there.
 pub fn deliver(scanned: CountAnswer, row: &[u32], out: &mut [u32]) -> CountAnswer
     requires { ⌜ Holds scanned (length (now row)) ⌝ }
     ensures { λ r. ⌜ Delivers scanned (now (row .entry)) (now (out .entry)) r (now (out .exit)) ⌝ }

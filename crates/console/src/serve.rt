@@ -17,9 +17,6 @@ const MAX_NUMBERS: usize = 4100;
 // An appended codeword has at most 47 bits.
 const APPENDED: usize = 6;
 
-// The codewords of 4,096 numbers have, in each order, at most 24,064 bytes.
-const CODEWORD_BYTES: usize = 24064;
-
 // How much room an output has: enough for every answer; exactly so much; or, of a buffer as long as its bytes, so many bytes in use.
 enum Room {
     Enough,
@@ -197,7 +194,7 @@ fn each_codeword(out: &mut [u8], order: u64, row: &[u32]) -> usize {
 
 // The codewords of a row that writing accepts.
 fn codewords(out: &mut [u8], order: u64, row: &[u32]) -> usize {
-    let mut buf = [0u8; CODEWORD_BYTES];
+    let mut buf = [0u8; calls::MAX_BYTES];
     let a = requests::write(order, row, &mut buf);
     if a.number != 0 {
         return refusal(out, a);

@@ -20,7 +20,7 @@ use Rattle.dense.specs.Code.{first, value, number, stem, codeword}
 use Rattle.dense.specs.Encoding.{encoding, parse, numbers}
 use Rattle.dense.specs.Limits.{isStoppers, Stoppers, continuers}
 use Rattle.dense.proofs.Limits.{bytes-below}
-use Rattle.dense.proofs.Numbers.{number-positive, codeword-good, codeword-only, number-digits, number-length}
+use Rattle.dense.proofs.Numbers.{number-positive, codeword-good, codeword-only, number-digits, number-length, shorter-first}
 use Rattle.dense.proofs.Parse.{parse-is}
 use Rattle.dense.proofs.Rows.{parse-only, encoding-parse, encoding-read, numbers-bytes, rows-apart, rows-begin, numbers-positive}
 use Rattle.dense.proofs.Long.{codeword-long, rows-fit}
@@ -38,6 +38,7 @@ dense-code s c ps pc =
       codeword-of-number = codeword-good s c ps pc;
       no-other-codeword = codeword-only s c ps pc;
       number-digits = number-digits s c;
+      shorter-first = shorter-first s c;
       numbers-of-length = number-length s c;
       has-parse = parse-is s c;
       no-other-parse = parse-only s c ps pc;
@@ -168,14 +169,14 @@ dense-lengths =
 -- ## Examples
 
 dense-examples : DenseExamples
-unfolding codeword stem number first value parse numbers readDense decode contents checkFinished isStoppers
+unfolding codeword stem number first value parse numbers writeDense readDense decode contents checkFinished isStoppers
 dense-examples =
     record {
       paper = refl;
       most = refl;
       fewest = refl;
-      no-stoppers = refl;
-      all-stoppers = refl;
+      no-stoppers = (refl, refl);
+      too-many-stoppers = (refl, refl);
       empty = refl;
       open-short = refl;
       open-long = refl;

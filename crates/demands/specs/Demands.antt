@@ -1,4 +1,4 @@
--- All that is promised of the definitions together, and for which orders and alphabets.
+-- All that is promised of the definitions together, and for which orders, alphabets and stoppers.
 use Prim.Native.Nat.{ℕ, _≤_}
 use Rattle.demands.specs.Codes.{Demand3}
 use Rattle.demands.specs.RoundTrip.{RoundTrip}

@@ -1,4 +1,4 @@
--- What paper 02 (R-2) asks of the dense code: exact reading and one writing per row, shown for all s together; and its examples.
+-- What paper 02 (R-2) asks of the dense code: exact reading and one writing per row, shown for all s together; and examples.
 use mathlib.Core.Path.{_≡_}
 use mathlib.Core.Bool.{true}
 use mathlib.Core.List.{List, [], _∷_, _++_, map, IsPrefix}
@@ -26,7 +26,9 @@ pub record DenseCode (s c : ℕ) : Type 0 where
   pub no-other-codeword : (w : List ℕ) (n : ℕ) → Codeword s c w → number s c w ≡ n → w ≡ codeword s c n
   -- by its leading bytes and its last byte
   pub number-digits : (u : List ℕ) (b : ℕ) → number s c (u ++ (b ∷ [])) ≡ first s c (length u) + (value s c 0 u * s + b)
-  -- shorter codewords come first: those with k leading bytes are those of the numbers from the first number of k up to the next first number
+  -- shorter codewords come first
+  pub shorter-first : (v w : List ℕ) → Codeword s c v → Codeword s c w → length v < length w → number s c v < number s c w
+  -- those with k leading bytes are those of the numbers from the first number of k up to the next first number
   pub numbers-of-length : (w : List ℕ) (k : ℕ) → Codeword s c w
       → (length w ≡ suc k) ↔ ((first s c k ≤ number s c w) × (number s c w < first s c (suc k)))
   -- 2. Every string of bytes is made of codewords and a rest in which none ends, and that in one way only
@@ -73,8 +75,8 @@ pub record DenseExamples : Type 0 where
       (0xFD ∷ []) ∷ (0xFE ∷ 0x00 ∷ []) ∷ (0xFE ∷ 0xFD ∷ []) ∷ (0xFF ∷ 0x00 ∷ []) ∷ (0xFE ∷ 0xFE ∷ 0x00 ∷ []) ∷ []
   pub fewest : map (codeword 1 255) (1 ∷ 2 ∷ 257 ∷ []) ≡ (0x00 ∷ []) ∷ (0x01 ∷ 0x00 ∷ []) ∷ (0x01 ∷ 0x01 ∷ 0x00 ∷ []) ∷ []
   -- 16: s is not 1 to 254
-  pub no-stoppers : readDense 0 [] 0 ≡ refused BadStoppers
-  pub all-stoppers : readDense 255 [] 0 ≡ refused BadStoppers
+  pub no-stoppers : (readDense 0 [] 0 ≡ refused BadStoppers) × (writeDense 0 [] 0 ≡ refused BadStoppers)
+  pub too-many-stoppers : (readDense 255 [] 0 ≡ refused BadStoppers) × (writeDense 255 [] 0 ≡ refused BadStoppers)
   -- 17, and 7 only at a codeword that is finished, however long
   pub empty : readDense 128 [] 0 ≡ accepted 0
   pub open-short : readDense 128 (0x80 ∷ []) 1 ≡ refused Unfinished

@@ -197,9 +197,17 @@ first-step s c k = omega arith
 pub first-up : (s c i k : ℕ) → i ≤ k → first s c i ≤ first s c k
 first-up s c i k h = rising (first s c) (first-step s c) h
 
+codeword-length : (s c : ℕ) (w : List ℕ) (x : Codeword s c w) → length w ≡ suc (length (x .stem))
+codeword-length s c w x = omega (arith, ap length (x .ends), length-append (x .stem) (x .last ∷ []))
+
+pub shorter-first : (s c : ℕ) (v w : List ℕ) → Codeword s c v → Codeword s c w → length v < length w → number s c v < number s c w
+shorter-first s c v w x y h =
+    let up = first-up s c (suc (length (x .stem))) (length (y .stem)) (omega (arith, codeword-length s c v x, codeword-length s c w y)) in
+    omega (arith, up, number-span s c v x, number-span s c w y)
+
 pub number-length : (s c : ℕ) (w : List ℕ) (k : ℕ) → Codeword s c w → (length w ≡ suc k) ↔ Between (first s c) (number s c w) k
 number-length s c w k x =
-    let l : length w ≡ suc (length (x .stem)) = omega (arith, ap length (x .ends), length-append (x .stem) (x .last ∷ [])) in
+    let l = codeword-length s c w x in
     let span = number-span s c w x in (
       λ e. let j : length (x .stem) ≡ k = omega arith in rw j at span,
       λ h. l ∙ ap suc (between-one (first s c) (first-step s c) (number s c w) (length (x .stem)) k span h),

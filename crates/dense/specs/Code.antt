@@ -1,5 +1,5 @@
--- The (s, c)-dense code (paper 02, R-2; source 001, section 1), for any s and c from 1 up: a byte below s is a stopper, one from s up to but without s + c a
--- continuer. Operations take c = 256 - s.
+-- The (s, c)-dense code (paper 02, R-2; source 001, section 1; the words are 003's), for any s and c from 1 up: a byte below s is a stopper, one from s up to but
+-- without s + c a continuer. Operations take c = 256 - s.
 use mathlib.Core.Path.{_≡_}
 use mathlib.Core.List.{List, [], _∷_, _++_}
 use Prim.Native.Nat.{ℕ, zero, suc, _+_, _-_, _*_, _/_, _%_, _^_, _≤_, _<_}

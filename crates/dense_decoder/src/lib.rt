@@ -18,7 +18,7 @@ enum Step {
 }
 
 // Where the last codeword that is finished ends: behind the last stopper.
-fn finished(b: &[u8], stoppers: u64) -> usize
+fn finished_end(b: &[u8], stoppers: u64) -> usize
     ensures { λ r. ⌜ FinishedBefore stoppers (now (b .entry)) r ⌝ }
 {
     let mut end = b.len();
@@ -100,7 +100,7 @@ fn store_row(stoppers: u64, b: &[u8], limit: u64, row: &mut [u32]) -> CountAnswe
     if b.len() > dense::MAX_BYTES {
         return CountAnswer::Refused(Refusal::TooManyBytes);
     }
-    let end = finished(b, stoppers);
+    let end = finished_end(b, stoppers);
     let mut i: usize = 0;
     let mut count: usize = 0;
     while i < end {

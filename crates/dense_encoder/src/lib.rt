@@ -33,8 +33,8 @@ fn check_each(row: &[u32], limit: u64) -> CountAnswer
     CountAnswer::Count(row.len())
 }
 
-// How many numbers of a row are at least so large. It has no branch that hangs on a number, so that it goes by several at once. Requires: a row that is not
-// too long, which `plan` checks: the count has 32 bits.
+// How many numbers of a row are at least so large. Compiled, it goes without a branch, several numbers at once. Requires: a row that is not too long, which
+// `plan` checks: the count has 32 bits.
 fn count_from(row: &[u32], low: u32) -> u32
     requires { ⌜ length (now row) ≤ maxCount ⌝ }
     ensures { λ r. ⌜ r ≡ countFrom low (now (row .entry)) ⌝ }
@@ -94,7 +94,8 @@ fn plan(stoppers: u64, row: &[u32], room: usize) -> CountAnswer
 
 // ## Putting
 
-// A number by a base: a division only where it is not below the base. Requires: a base from 1 up, which both s and c are.
+// A number by a base: a division only where it is not below the base. Requires: a base from 1 up, which `put_codeword` shows of s
+// and of c.
 fn divide(x: u32, base: u32) -> Divided
     requires { ⌜ 1 ≤ base ⌝ }
     ensures { λ r. ⌜ (r .quotient ≡ x / base) × (r .remainder ≡ x % base) ⌝ }
@@ -132,8 +133,8 @@ fn put_codeword(out: &mut [u8], end: usize, stoppers: u32, n: u32) -> usize
     at
 }
 
-// The codewords of a row from the front of a buffer, the last one first: where each begins is known only from its end. Requires: they take so many bytes, and
-// there is room, which `plan` has found.
+// The codewords of a row from the front of a buffer, the last one first: where each begins is known only from its end. Requires: s from 1 to 254, a row that
+// has passed its checks, so many bytes for its codewords, and room for them, which `write` and `plan` see to.
 fn put_row(out: &mut [u8], bytes: usize, stoppers: u32, row: &[u32])
     requires { ⌜ Fits stoppers (now row) bytes (length (now out)) ⌝ }
     ensures { λ r. ⌜ now (out .exit) ≡ encoding stoppers (continuers stoppers) (now (row .entry)) ++ drop bytes (now (out .entry)) ⌝ }

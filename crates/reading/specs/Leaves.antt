@@ -1,4 +1,4 @@
--- What the readers of an encoding share: the number of a codeword, and the padding.
+-- What the readers of a Fibonacci encoding share: the number of a codeword, and the padding.
 use mathlib.Core.Path.{_≡_}
 use mathlib.Core.Bool.{Bool, _&&_}
 use Prim.Native.Nat.{ℕ, _+_, _≤_, _<_}

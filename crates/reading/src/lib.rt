@@ -1,4 +1,4 @@
-// What every reader of an encoding shares: the number of a codeword that ends, and the padding.
+// What every reader of a Fibonacci encoding shares: the number of a codeword that ends, and the padding.
 ghost use mathlib.Core.Path.{_≡_};
 ghost use Prim.Native.Nat.{_^_, _<_};
 ghost use Rattle.fibonacci.specs.Leaves.{Firsts};

@@ -27,7 +27,7 @@ less : (t : tie.After-next Inv-loop μ-loop) → t .before .before .before .loop
 less t = omega (arith, t .before .before .before .loop .inv .1 .many)
 
 within : (t : tie.After-next Inv-loop μ-loop) → t .before .before .before .loop .i < length (t .before .before .before .before .before .before .before .before .args .b .now)
-within t = omega (arith, t .before .before .before .before .finished .ensures .0)
+within t = omega (arith, t .before .before .before .before .finished-end .ensures .0)
 
 room : (t : tie.After-next Inv-loop μ-loop) → min maxCount (length (t .before .before .before .before .before .before .before .before .args .b .now)) ≤ length (t .before .before .before .loop .row)
 room t = omega (arith, t .before .before .before .before .before .before .before .before .pre .2, t .before .before .before .loop .inv .0)
@@ -50,7 +50,7 @@ number c = front (c .before .before) _ (c .found .given .1)
 left : (c : tie.After-loop Inv-loop μ-loop) → let a = c .before .before .before .before .before .before .args in Rest (a .stoppers) (drop (c .before .loop .i) (a .b .now))
 left c =
     let a = c .before .before .before .before .before .before .args in
-    let f = c .before .before .finished in
+    let f = c .before .before .finished-end in
     rest-later (a .stoppers) (a .b .now) (c .before .loop .i) (f .result) (omega arith) (f .ensures .2)
 
 returns : tie.Need-returns Inv-loop μ-loop
@@ -58,8 +58,8 @@ returns c =
     let a = c .before .before .before .args in
     rw (decode-long (dense (a .stoppers)) (a .limit) (a .b .now) (c .if1 .taken)) (refl, tt)
 
-finished-requires : tie.Need-finished-requires Inv-loop μ-loop
-finished-requires c κs = search needs
+finished-end-requires : tie.Need-finished-end-requires Inv-loop μ-loop
+finished-end-requires c κs = search needs
 
 loop-holds : tie.Need-loop-holds Inv-loop μ-loop
 loop-holds c = let a = c .before .before .before .before .args in (refl, stored-none (a .stoppers) (a .limit) (a .b .now) (a .row .now))
@@ -74,13 +74,13 @@ returns-2 c =
     let l = c .before .before .loop in
     rw (
       decode-contents (dense (a .stoppers)) (a .limit) (a .b .now) (omega arith),
-      stored-many (a .stoppers) (a .limit) (a .b .now) (l .row) (l .i) (l .count) (omega (arith, z .pre .2, l .inv .0)) (l .inv .1) (omega arith) (c .before .before .before .finished .ensures .1 (l .i) (omega arith)),
+      stored-many (a .stoppers) (a .limit) (a .b .now) (l .row) (l .i) (l .count) (omega (arith, z .pre .2, l .inv .0)) (l .inv .1) (omega arith) (c .before .before .before .finished-end .ensures .1 (l .i) (omega arith)),
     ) (refl, tt)
 
 next-requires : tie.Need-next-requires Inv-loop μ-loop
 next-requires c κs =
     let p = c .before .before .before .before .before .before .before .pre in
-    (p .0, c .before .before .before .finished .ensures .1 (c .before .before .loop .i) (omega arith), p .1)
+    (p .0, c .before .before .before .finished-end .ensures .1 (c .before .before .loop .i) (omega arith), p .1)
 
 enum-known-found : tie.Need-enum-known-found Inv-loop μ-loop
 enum-known-found c = search needs
@@ -165,7 +165,7 @@ store-row-spec =
     Inv-loop
     μ-loop
     returns
-    finished-requires
+    finished-end-requires
     loop-holds
     same-length
     returns-2

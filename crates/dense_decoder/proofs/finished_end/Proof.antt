@@ -5,8 +5,8 @@ use lib.ListN.{length, drop}
 use borrow.Author.Needs.{needs}
 use Rattle.dense.specs.Encoding.{Rest}
 use Rattle.dense_decoder.proofs.Front.{rest-none, rest-more}
-use Rattle.dense_decoder.proofs.finished.Statement.{statement}
-use Rattle.dense_decoder.proofs.finished.Tie as tie
+use Rattle.dense_decoder.proofs.finished_end.Statement.{statement}
+use Rattle.dense_decoder.proofs.finished_end.Tie as tie
 
 abbrev Inv-loop : tie.InvT-loop
 Inv-loop b stoppers end₀ end = (end ≤ length b) × Rest stoppers (drop end b)
@@ -52,8 +52,8 @@ returns-2 c =
     let none : l .end ≡ 0 = omega arith in
     (omega arith, λ i h. absurd (omega arith), subst (λ (e : ℕ). Rest (a .stoppers) (drop e (a .b .now))) none (l .inv .1))
 
-pub finished-spec : {M : Type 1} → statement M
-finished-spec =
+pub finished-end-spec : {M : Type 1} → statement M
+finished-end-spec =
     tie.close
     (tie.spec
     Inv-loop
