@@ -1,3 +1,4 @@
 pub mod Checks
 pub mod Finished
 pub mod Decoding
+pub mod Writing

@@ -16,16 +16,17 @@ use Rattle.calls.specs.Reading.{contents, decode, checkFinished}
 use Rattle.calls.proofs.Checks.{number-is, is-number, positive}
 use Rattle.calls.specs.declared.Refusal.the-variants.{BadStoppers}
 use Rattle.calls.proofs.Decoding.{decode-accepts, called-returns}
+use Rattle.calls.proofs.Writing.{Writable}
 use Rattle.dense.specs.Code.{first, value, number, stem, codeword}
 use Rattle.dense.specs.Encoding.{encoding, parse, numbers}
 use Rattle.dense.specs.Limits.{isStoppers, Stoppers, continuers}
-use Rattle.dense.proofs.Limits.{bytes-below}
+use Rattle.dense.proofs.Limits.{stoppers-is, is-stoppers, bytes-below}
 use Rattle.dense.proofs.Numbers.{number-positive, codeword-good, codeword-only, number-digits, number-length, shorter-first}
 use Rattle.dense.proofs.Parse.{parse-is}
 use Rattle.dense.proofs.Rows.{parse-only, encoding-parse, encoding-read, numbers-bytes, rows-apart, rows-begin, numbers-positive}
 use Rattle.dense.proofs.Long.{codeword-long, rows-fit}
 use Rattle.dense_encoder.specs.Writing.{writeDense, writeDenseInto}
-use Rattle.dense_encoder.proofs.Writing.{Writable, write-is, write-accepts, write-into}
+use Rattle.dense_encoder.proofs.Writing.{writing, write-is, write-accepts, write-into}
 use Rattle.dense_decoder.specs.Reading.{dense, readDense, readDenseInto}
 use Rattle.dense_decoder.proofs.Reading.{decode-is, decoded-rest, read-is, read-row}
 use Rattle.demands.specs.Readers.{ReturnsParse}
@@ -79,8 +80,8 @@ module _ (s : ℕ) where
       (readDense s b (length out) ≡ accepted (length row)) × (readDenseInto s b out ≡ row ++ drop (length row) out)
   written-read row before out bytes e l =
       let w = write-is s row (length before) bytes e .0 in
-      rw (written row before bytes e)
-      (read-row s (encoding s c row) out (w .stoppers) row (decode-encoding row (w .stoppers) (w .count) (w .legal)) l)
+      let o = stoppers-is s (w .asked) in
+      rw (written row before bytes e) (read-row s (encoding s c row) out o row (decode-encoding row o (w .count) (w .legal)) l)
 
   -- writing what was read
   decoded-encoding : (b row : List ℕ) → Stoppers s → Bytes b → decode (dense s) maxNumber b ≡ accepted row → b ≡ encoding s c row
@@ -94,7 +95,7 @@ module _ (s : ℕ) where
   decoded-written b row before o y e l =
       let d = decode-is s maxNumber b row e in
       let same : b ≡ encoding s c row = decoded-encoding b row o y e in
-      let w : Writable s row (length before) = record { stoppers = o; count = d .long; legal = d .legal; fits = omega (arith, ap length same) } in
+      let w : Writable (writing s row) (length before) = record { asked = is-stoppers s o; count = d .long; legal = d .legal; fits = omega (arith, ap length same) } in
       rw same (write-accepts s row (length before) w, write-into s row before w)
 
   read-written : (b out before : List ℕ) (count : ℕ) → Bytes b → readDense s b (length out) ≡ accepted count → length b ≤ length before
@@ -116,8 +117,9 @@ module _ (s : ℕ) where
   written-apart row other before after bytes e f q =
       let w = write-is s row (length before) bytes e .0 in
       let v = write-is s other (length after) bytes f .0 in
-      let pc : 1 ≤ c = omega (arith, w .stoppers) in
-      rows-apart s c (w .stoppers .0) pc row other (positive maxNumber row (w .legal)) (positive maxNumber other (v .legal))
+      let o = stoppers-is s (w .asked) in
+      let pc : 1 ≤ c = omega (arith, o) in
+      rows-apart s c (o .0) pc row other (positive maxNumber row (w .legal)) (positive maxNumber other (v .legal))
       (sym (written row before bytes e) ∙ q ∙ written other after bytes f)
 
   dense-round-trip : DenseRoundTrip s
@@ -146,7 +148,7 @@ stoppers-254 = (omega arith, omega arith)
 full-written : (room : ℕ) → 102400 ≤ room → writeDense 254 (replicate maxCount maxNumber) room ≡ accepted 102400
 full-written room h =
     write-accepts 254 (replicate maxCount maxNumber) room
-    (record { stoppers = stoppers-254; count = omega (arith, full-count); legal = full-legal; fits = omega (arith, full-bytes maxCount) })
+    (record { asked = is-stoppers 254 stoppers-254; count = omega (arith, full-count); legal = full-legal; fits = omega (arith, full-bytes maxCount) })
     ∙ ap accepted (full-bytes maxCount)
 
 full-read : (room : ℕ) → maxCount ≤ room → readDense 254 (encoding 254 2 (replicate maxCount maxNumber)) room ≡ accepted maxCount

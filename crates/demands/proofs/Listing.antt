@@ -127,7 +127,7 @@ lines-whole m place total (n ∷ row) o a p t =
 nothing-cut : (m : ℕ) (row : List ℕ) (bytes bits : ℕ) → write m row maxBytes ≡ accepted (bytes, bits) → WholeLines m 0 0 row × Whole 11 bytes
 nothing-cut m row bytes bits e =
     let w = write-is m row maxBytes bytes bits e in
-    (lines-whole m 0 0 row (w .0 .order) (w .0 .legal) (omega (arith, w .0 .count)) (omega arith), column-number 11 bytes (omega (arith, w .0 .fits, w .1)))
+    (lines-whole m 0 0 row (order-is m (w .0 .asked)) (w .0 .legal) (omega (arith, w .0 .count)) (omega arith), column-number 11 bytes (omega (arith, w .0 .fits, w .1)))
 
 pub listing-demand : ListingDemand
 listing-demand =

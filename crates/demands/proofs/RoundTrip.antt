@@ -12,17 +12,18 @@ use Rattle.bits.proofs.Packing.{unpack-pack, padding-below, pack-length, pack-b
 use Rattle.bits.proofs.Count.{zeros-none, none-zeros}
 use Rattle.codes.specs.Parse.{rest}
 use Rattle.fibonacci.specs.Encoding.{rowBits, encoding, parse}
-use Rattle.calls.proofs.Checks.{is-order, positive}
+use Rattle.calls.proofs.Checks.{order-is, is-order, positive}
 use Rattle.calls.specs.Calls.{accepted}
 use Rattle.calls.specs.Limits.{Order, isNumber, Legal, maxNumber, maxCount}
 use Rattle.calls.specs.Reading.{decode}
 use Rattle.fibonacci.proofs.Rows.{bits-append, numbers-bits, encoding-parse, encoding-read, bits-few}
 use Rattle.reading.specs.Reading.{fibonacci, read, readInto}
 use Rattle.calls.proofs.Decoding.{decode-accepts}
+use Rattle.calls.proofs.Writing.{Writable}
 use Rattle.reading.proofs.Checking.{rest-good}
 use Rattle.reading.proofs.Decoding.{decode-is, decoded-rest, read-is, read-row}
 use Rattle.encoder.specs.Writing.{write, writeInto}
-use Rattle.encoder.proofs.Writing.{Writable, write-is, write-accepts}
+use Rattle.encoder.proofs.Writing.{writing, write-is, write-accepts}
 use Rattle.appender.specs.Appending.{append, appendInto}
 use Rattle.demands.specs.RoundTrip.{RoundTrip, appendAll}
 use Rattle.appender.proofs.Appending.{extend-fits, append-read}
@@ -85,7 +86,7 @@ legal-last : (row : List ℕ) (n : ℕ) → Legal maxNumber (row ++ (n ∷ [])) 
 legal-last [] n a = a .0
 legal-last (k ∷ row) n a = legal-last row n (a .1)
 
-module _ (m : ℕ) (row before : List ℕ) (n : ℕ) (w : Writable m (row ++ (n ∷ [])) (length before)) where
+module _ (m : ℕ) (row before : List ℕ) (n : ℕ) (w : Writable (writing m (row ++ (n ∷ []))) (length before)) where
   abbrev used : ℕ
   used = length (encoding m row)
 
@@ -99,11 +100,11 @@ module _ (m : ℕ) (row before : List ℕ) (n : ℕ) (w : Writable m (row ++ (n 
   front-decode : decode (fibonacci m) maxNumber (take used (front m row before)) ≡ accepted row
   front-decode =
       ap (decode (fibonacci m) maxNumber) (take-append-seam (encoding m row) (drop used before))
-      ∙ decode-encoding m row (w .order) (omega (arith, w .count, length-append row (n ∷ []))) (legal-begin row (n ∷ []) (w .legal))
+      ∙ decode-encoding m row (order-is m (w .asked)) (omega (arith, w .count, length-append row (n ∷ []))) (legal-begin row (n ∷ []) (w .legal))
 
   front-append : append m (front m row before) used n ≡ accepted (length (encoding m (row ++ (n ∷ []))), suc (length row))
   front-append =
-      append-read m (front m row before) used n (is-order m (w .order)) (omega (arith, front-length, used-less, w .fits)) row front-decode
+      append-read m (front m row before) used n (w .asked) (omega (arith, front-length, used-less, w .fits)) row front-decode
       ∙ extend-fits m (length (front m row before)) row n (legal-last row n (w .legal)) (omega (arith, w .count, length-append row (n ∷ [])))
       (omega (arith, front-length, w .fits))
 
@@ -118,15 +119,15 @@ module _ (m : ℕ) (row before : List ℕ) (n : ℕ) (w : Writable m (row ++ (n 
       ∙ drop-drop k used before ∙ ap (λ (j : ℕ). drop j before) at in
       rw (front-append, ← decode-is m maxNumber (take used (front m row before)) row front-decode .is) (ap (λ (l : List ℕ). new ++ l) later)
 
-append-all : (m : ℕ) (row ns before : List ℕ) → Writable m (row ++ ns) (length before)
+append-all : (m : ℕ) (row ns before : List ℕ) → Writable (writing m (row ++ ns)) (length before)
     → appendAll m (front m row before) (length (encoding m row)) (length row) ns
     ≡ accepted (front m (row ++ ns) before, length (encoding m (row ++ ns)), length (row ++ ns))
 append-all m row [] before w = ap (λ (r : List ℕ). accepted (front m r before, length (encoding m r), length r)) (sym (append-nil row))
 append-all m row (n ∷ ns) before w =
-    let later : Writable m ((row ++ (n ∷ [])) ++ ns) (length before) = rw (append-assoc row (n ∷ []) ns) w in
-    let next : Writable m (row ++ (n ∷ [])) (length before) =
+    let later : Writable (writing m ((row ++ (n ∷ [])) ++ ns)) (length before) = rw (append-assoc row (n ∷ []) ns) w in
+    let next : Writable (writing m (row ++ (n ∷ []))) (length before) =
     record {
-      order = later .order;
+      asked = later .asked;
       count = omega (arith, later .count, length-append (row ++ (n ∷ [])) ns);
       legal = legal-begin (row ++ (n ∷ [])) ns (later .legal);
       fits = omega (arith, later .fits, encoding-grows m (row ++ (n ∷ [])) ns);
@@ -138,7 +139,7 @@ append-all m row (n ∷ ns) before w =
 
 -- ## All of it
 
-write-into : (m : ℕ) (row before : List ℕ) → Writable m row (length before) → writeInto m row before ≡ front m row before
+write-into : (m : ℕ) (row before : List ℕ) → Writable (writing m row) (length before) → writeInto m row before ≡ front m row before
 unfolding writeInto
 write-into m row before w = rw (write-accepts m row (length before) w) refl
 
@@ -150,7 +151,8 @@ written-read m row before out bytes bits e l =
     let w = i .0 in
     let s : take bytes (writeInto m row before) ≡ encoding m row =
     ap₂ take (i .1) (write-into m row before w) ∙ take-append-seam (encoding m row) _ in
-    let r = read-row m (encoding m row) out (w .order) row (decode-encoding m row (w .order) (w .count) (w .legal)) l in
+    let o = order-is m (w .asked) in
+    let r = read-row m (encoding m row) out o row (decode-encoding m row o (w .count) (w .legal)) l in
     rw s r
 
 decoded-written : (m : ℕ) (s row before : List ℕ) → Order m → Bytes s → decode (fibonacci m) maxNumber s ≡ accepted row → length s ≤ length before
@@ -158,8 +160,8 @@ decoded-written : (m : ℕ) (s row before : List ℕ) → Order m → Bytes s �
 decoded-written m s row before o b e l =
     let d = decode-is m maxNumber s row e in
     let same : s ≡ encoding m row = decoded-encoding m s row o b e in
-    let w : Writable m row (length before) =
-    record { order = o; count = d .long; legal = d .legal; fits = omega (arith, ap length same) } in
+    let w : Writable (writing m row) (length before) =
+    record { asked = is-order m o; count = d .long; legal = d .legal; fits = omega (arith, ap length same) } in
     rw same (write-accepts m row (length before) w, write-into m row before w)
 
 read-written : (m : ℕ) (s out before : List ℕ) (n : ℕ) → Bytes s → read m s (length out) ≡ accepted n → length s ≤ length before

@@ -64,7 +64,7 @@ module _ (m : ℕ) (o : Order m) where
   full : (room : ℕ) → 512 * m ≤ room → write m (onesRow maxCount) room ≡ accepted (512 * m, 4096 * m)
   full room h =
       write-accepts m (onesRow maxCount) room
-      (record { order = o; count = omega (arith, ones-length maxCount); legal = ones-legal maxCount; fits = omega (arith, full-bytes) })
+      (record { asked = is-order m o; count = omega (arith, ones-length maxCount); legal = ones-legal maxCount; fits = omega (arith, full-bytes) })
       ∙ ap₂ (λ (k n : ℕ). accepted (k, n)) full-bytes (ones-bits m maxCount)
 
   written : (room : ℕ) → write m (onesRow (suc maxCount)) room ≡ refused TooManyNumbers

@@ -6,7 +6,9 @@ use Rattle.calls.specs.declared.Refusal.the-variants.{NoRoom}
 use Rattle.calls.specs.declared.CountAnswer.the-variants.{Count, Refused}
 use Rattle.calls.specs.Limits.{maxBytes}
 use Rattle.encoder.specs.Writing.{writeOutcome}
-use Rattle.encoder.proofs.Writing.{Writable, write-is}
+use Rattle.calls.proofs.Checks.{order-is}
+use Rattle.calls.proofs.Writing.{Writable}
+use Rattle.encoder.proofs.Writing.{writing, write-is}
 use Rattle.listing_lines.specs.Lines.{lines}
 use Rattle.listing_lines.proofs.Lines.{lines-length}
 use Rattle.listing_text.specs.Listing.{listingOf, printed}
@@ -19,7 +21,7 @@ use Rattle.listing_text.proofs.list.Tie as tie
 -- the row was written, and so many bytes are printed
 written : (c : tie.After-known-told2)
     → let a = c .before .before .before .before .before .before .before .before .args in
-    Writable (a .order) (a .row .now) maxBytes × (lines (a .order) (a .row .now) (c .before .written2 .given .0 .0) ≡ printed (listingOf (a .order) (a .row .now)))
+    Writable (writing (a .order) (a .row .now)) maxBytes × (lines (a .order) (a .row .now) (c .before .written2 .given .0 .0) ≡ printed (listingOf (a .order) (a .row .now)))
 written c =
     let a = c .before .before .before .before .before .before .before .before .args in
     let e = ap writeOutcome (sym (c .before .written2 .given .1)) ∙ c .before .before .before .before .write .ensures .0 in
@@ -55,7 +57,7 @@ returns c =
 put-lines-requires : tie.Need-put-lines-requires
 put-lines-requires c κs =
     let w = written (c .before .before) .0 in
-    (w .order, w .count, w .legal, c .before .if1 .left)
+    (order-is _ (w .asked), w .count, w .legal, c .before .if1 .left)
 
 same-length : tie.Need-same-length
 same-length c = search needs
