@@ -1,4 +1,5 @@
 -- All that is promised of the definitions together.
+use Rattle.fibonacci.proofs.Numbers.{first-order-2}
 use Rattle.demands.specs.Demands.{Demands}
 use Rattle.demands.proofs.Codes.{demand-3}
 use Rattle.demands.proofs.RoundTrip.{round-trip}
@@ -20,6 +21,7 @@ demands-hold =
       index = index-demand;
       built = built-answers;
       dense = dense-demand;
+      first-order-2 = first-order-2;
       listing = listing-demand;
       pencil = pencil-holds;
       sentences = sentences-hold;

@@ -1,5 +1,7 @@
 -- All that is promised of the definitions together, and for which orders, alphabets and stoppers.
-use Prim.Native.Nat.{ℕ, _≤_}
+use mathlib.Core.Path.{_≡_}
+use Prim.Native.Nat.{ℕ, suc, _≤_}
+use Rattle.fibonacci.specs.Code.{F, first}
 use Rattle.demands.specs.Codes.{Demand3}
 use Rattle.demands.specs.RoundTrip.{RoundTrip}
 use Rattle.demands.specs.Readers.{TwoReaders}
@@ -21,6 +23,8 @@ pub record Demands : Type 0 where
   pub built : BuiltAnswers
   -- Paper 02, R-2: the dense code
   pub dense : DenseDemand
+  -- Paper 02, R-3: in order 2 the first number with d bits before its two ones is F(d + 1); so with s digits and a 0 it is F(s + 2), and number 1 is F(1)
+  pub first-order-2 : (d : ℕ) → first 2 d ≡ F 2 (suc d)
   -- Paper 01: the listing; its worked examples, and the sentences beside them
   pub listing : ListingDemand
   pub pencil : Pencil
