@@ -713,6 +713,16 @@ fn papers(s: &mut Sources) {
     }
 }
 
+// Paper 02, R-3: in order 2 the first number with s digits is F(s + 2). Its digits are zeros, and up to 44 of them it is a legal number.
+fn first_numbers_of_order_2(s: &mut Sources) {
+    for digits in 0..=44 {
+        let place = format!("paper 02, R-3, s = {digits}");
+        let first = f(2, digits as i64 + 2);
+        s.same_number(&place, first, model::first_number(2, digits));
+        s.codeword(&place, 2, first, &("0".repeat(digits) + "011"));
+    }
+}
+
 fn main() {
     let read = |path: String| std::fs::read_to_string(&path).unwrap_or_else(|error| panic!("{path}: {error}"));
     let scripts: Vec<String> = std::env::args().skip(1).map(read).collect();
@@ -733,6 +743,7 @@ fn main() {
     compressors(&mut s);
     trees(&mut s);
     papers(&mut s);
+    first_numbers_of_order_2(&mut s);
     listings(&mut s);
     for e in &ERRATA {
         assert!(s.met.contains(e.place), "nothing was compared at: {}", e.place);

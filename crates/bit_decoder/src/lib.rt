@@ -18,7 +18,7 @@ pub struct Next {
 }
 
 // What `run` ones after `len` pending bits are worth once a zero follows them, by the first numbers: no loop over them. It matters only as long as a number of
-// that length can be at most 4,294,967,295; past that the table has no first number, and the result is 0. Requires: the first numbers of an order in use, and
+// that length can be at most 4,294,967,295; past that their row has 0, and the result is 0. Requires: the first numbers of an order in use, and
 // fewer than 2^32 bits, which `seek` shows.
 fn ones_value(firsts: &[u32; 47], order: usize, len: usize, run: usize) -> u64
     requires { ⌜ Firsts order (now firsts) × (len + run < 2 ^ 32) ⌝ }

@@ -8,6 +8,7 @@ use native.Mathlib.Nat.{add-zero, zero-add}
 use native.Mathlib.Decide.{decLe}
 use lib.Dec.{leb, eqb}
 use lib.ListN.{length, getD, take, replicate, getD-replicate, length-replicate}
+use lib.Seq.{ext-getD}
 use borrow.Author.Tests.{le-leb, lt-leb, leb-true, leb-false, eqb-true}
 use Rattle.lists.specs.Lists.{sum, valuesFrom}
 use Rattle.lists.proofs.Lists.{values-at}
@@ -17,19 +18,19 @@ use Rattle.calls.specs.Limits.{maxNumber, Order}
 use Rattle.calls.proofs.Checks.{both}
 use Rattle.fibonacci.specs.Leaves.{recursAfter, recurs, numberOrZero, tableRow}
 use Rattle.fibonacci.proofs.Numeration.{F-rises, digits-length}
-use Rattle.fibonacci.proofs.Numbers.{first-rises, codeword-size}
+use Rattle.fibonacci.proofs.Numbers.{first-order-2, first-rises, codeword-size}
 
--- a table of tables: a row for each order from 2 to 6
+-- a table of tables: a row for each order from 3 to 6
 unfoldable pub tableOf : (ℕ → ℕ → ℕ) → List (List ℕ)
 unfolding tableRow
-tableOf f = valuesFrom (λ m. tableRow (f m)) 2 5
+tableOf f = valuesFrom (λ m. tableRow (f m)) 3 4
 
 -- the row of an order in it
-pub row-at : (f : ℕ → ℕ → ℕ) (m : ℕ) (z : List ℕ) → Order m → getD (tableOf f) (m - 2) z ≡ tableRow (f m)
+pub row-at : (f : ℕ → ℕ → ℕ) (m : ℕ) (z : List ℕ) → 3 ≤ m → m ≤ 6 → getD (tableOf f) (m - 3) z ≡ tableRow (f m)
 unfolding tableOf
-row-at f m z h =
-    let e : 2 + (m - 2) ≡ m = omega arith in
-    values-at (λ m. tableRow (f m)) 2 5 (m - 2) z (omega arith) ∙ ap (λ (m : ℕ). tableRow (f m)) e
+row-at f m z h l =
+    let e : 3 + (m - 3) ≡ m = omega arith in
+    values-at (λ m. tableRow (f m)) 3 4 (m - 3) z (omega arith) ∙ ap (λ (m : ℕ). tableRow (f m)) e
 
 -- an entry of a row
 pub entry-at : (f : ℕ → ℕ) (j z : ℕ) → j < 47 → getD (tableRow f) j z ≡ numberOrZero (f j)
@@ -106,6 +107,17 @@ after-at m n before (x ∷ es) p b e i h = go (leb (sum (take m before)) maxNumb
     go false t ih =
         let none : sum (x ∷ es) ≡ 0 = eqb-true _ _ (rw (t, recursAfter) at e) in
         sum-none (x ∷ es) none i ∙ sym (number-zero _ (omega (arith, leb-false (sum (take m before)) maxNumber t, next, F-rises m p {j = suc n} {k = suc n + i} (omega arith))))
+
+-- in order 2 what recurs after F(0), 47 entries, are the first numbers
+pub row-order-2 : (row : List ℕ) → length row ≡ 47 → recursAfter 2 (1 ∷ replicate 2 0) row ≡ true → row ≡ tableRow (first 2)
+unfolding past tableRow
+row-order-2 row l e = ext-getD 0 row (tableRow (first 2)) l at
+  where
+    at : (d : ℕ) → d < length row → getD row d 0 ≡ getD (tableRow (first 2)) d 0
+    at d h =
+        let k : 1 + d ≡ suc d = omega arith in
+        after-at 2 0 (1 ∷ replicate 2 0) row (omega arith) refl e d h ∙ ap numberOrZero (ap (F 2) k ∙ sym (first-order-2 d))
+        ∙ sym (entry-at (first 2) d 0 (omega arith))
 
 -- an entry of a row whose own entries recur is a position value, or 0 where that is above the largest number
 pub recurs-at : (m : ℕ) (row : List ℕ) → 1 ≤ m → recurs m row ≡ true → (j : ℕ) → j < 47 → getD row j 0 ≡ numberOrZero (F m j)

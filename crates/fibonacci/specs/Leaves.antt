@@ -1,4 +1,4 @@
--- The constant tables of position values and first numbers, as far as the largest number needs them: rows of 47 entries, a row for each order from 2 to 6.
+-- The position values and first numbers of an order, as far as the largest number needs them: rows of 47 entries, a row of each for every order from 2 to 6.
 use mathlib.Core.Path.{_≡_}
 use mathlib.Core.Bool.{Bool, true, false, _&&_}
 use mathlib.Core.List.{List, [], _∷_}
@@ -29,11 +29,11 @@ Positions m row = Order m × (recurs m row ≡ true)
 
 -- ## The first numbers, by their definition
 
--- What a table holds for a value: the value where it is at most the largest number, and 0 where it is above
+-- What a row holds for a value: the value where it is at most the largest number, and 0 where it is above
 unfoldable pub numberOrZero : ℕ → ℕ
 numberOrZero x = elim (leb x maxNumber) [ true ↦ x | false ↦ 0 ]
 
--- The row of a table for the values f(0), f(1), .. : as many as any order has up to the largest number
+-- The row of the values f(0), f(1), .. : as many as any order has up to the largest number
 unfoldable pub tableRow : (ℕ → ℕ) → List ℕ
 tableRow f = valuesFrom (λ j. numberOrZero (f j)) 0 47
 

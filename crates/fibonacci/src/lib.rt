@@ -1,4 +1,4 @@
-// The Fibonacci codes of order 2 to 6: position values and first numbers, by constant tables.
+// The Fibonacci codes of order 2 to 6: position values and first numbers, by constant tables; the first numbers of order 2 by its position values.
 ghost use mathlib.Core.Path.{_≡_};
 ghost use Prim.Native.Nat.{_≤_};
 ghost use Rattle.calls.specs.Limits.{Order, maxNumber};
@@ -20,12 +20,19 @@ pub fn positions(order: usize) -> [u32; 47]
     POSITIONS[i]
 }
 
-// The first numbers of an order, by how many bits stand before the last ones. Requires: an order from 2 to 6, which every operation checks.
+// The first numbers of an order, by how many bits stand before the last ones. In order 2, with d bits, that is F(d + 1) (paper 02, R-3): the position values
+// from F(1) on, and 0 for F(47), which is above 4,294,967,295. Requires: an order from 2 to 6, which every operation checks.
 pub fn first_numbers(order: usize) -> [u32; 47]
     requires { ⌜ Order order ⌝ }
     ensures { λ r. ⌜ Firsts order r ⌝ }
 {
-    let i = order - 2;
+    if order == 2 {
+        let row = POSITIONS[0];
+        let mut firsts = [0u32; 47];
+        lists::copy(&mut firsts, &row[1..], 46);
+        return firsts;
+    }
+    let i = order - 3;
     FIRST_NUMBERS[i]
 }
 

@@ -1,6 +1,6 @@
-// The constant tables: a row for each order from 2 to 6, and 0 for a value above 4,294,967,295.
+// The constant tables: a row for each order, and 0 for a value above 4,294,967,295.
 
-// F(0), F(1), .. , F(46).
+// F(0), F(1), .. , F(46) of the orders 2 to 6.
 pub const POSITIONS: [[u32; 47]; 5] = [
     [
         1,
@@ -249,57 +249,8 @@ pub const POSITIONS: [[u32; 47]; 5] = [
     ],
 ];
 
-// The first numbers whose codewords have 0, 1, .. , 46 bits before their last ones.
-pub const FIRST_NUMBERS: [[u32; 47]; 5] = [
-    [
-        1,
-        2,
-        3,
-        5,
-        8,
-        13,
-        21,
-        34,
-        55,
-        89,
-        144,
-        233,
-        377,
-        610,
-        987,
-        1597,
-        2584,
-        4181,
-        6765,
-        10946,
-        17711,
-        28657,
-        46368,
-        75025,
-        121393,
-        196418,
-        317811,
-        514229,
-        832040,
-        1346269,
-        2178309,
-        3524578,
-        5702887,
-        9227465,
-        14930352,
-        24157817,
-        39088169,
-        63245986,
-        102334155,
-        165580141,
-        267914296,
-        433494437,
-        701408733,
-        1134903170,
-        1836311903,
-        2971215073,
-        0,
-    ],
+// The first numbers whose codewords have 0, 1, .. , 46 bits before their last ones, of the orders 3 to 6. (Order 2 needs none: see `first_numbers`.)
+pub const FIRST_NUMBERS: [[u32; 47]; 4] = [
     [
         1,
         2,
