@@ -32,12 +32,13 @@ first-suc m (suc s) =
     let e : 1 + s ≡ suc s = omega arith in
     omega (arith, sum-last (F m) 1 s, ap (F m) e)
 
--- in order 2 they are the position values, one place on: 2 + F(1) + .. + F(s) is F(s + 2), as each value is the sum of the two before it
+-- order 2: a position value is the sum of the two before it
 F-order-2 : (n : ℕ) → F 2 (suc (suc n)) ≡ F 2 (suc n) + F 2 n
 unfolding F past
 F-order-2 zero = refl
 F-order-2 (suc n) = omega arith
 
+-- and so the first numbers are the position values, one place on: 2 + F(1) + .. + F(s) is F(s + 2) (paper 02, R-3)
 pub first-order-2 : (d : ℕ) → first 2 d ≡ F 2 (suc d)
 unfolding first F past
 first-order-2 zero = refl

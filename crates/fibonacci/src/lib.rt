@@ -27,6 +27,7 @@ pub fn first_numbers(order: usize) -> [u32; 47]
     ensures { λ r. ⌜ Firsts order r ⌝ }
 {
     if order == 2 {
+        // at a constant index, so that this row alone is written to the stack
         let row = POSITIONS[0];
         let mut firsts = [0u32; 47];
         lists::copy(&mut firsts, &row[1..], 46);
