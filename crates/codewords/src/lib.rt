@@ -12,6 +12,11 @@ ghost use Rattle.codewords.specs.Leaves.{rate, lowCount, lowDigits, High
 mod tables;
 
 use tables::LOW_DIGITS;
+use tables::LOW_DIGITS_2;
+use tables::LOW_DIGITS_3;
+use tables::LOW_DIGITS_4;
+use tables::LOW_DIGITS_5;
+use tables::LOW_DIGITS_6;
 
 // A codeword: its bits are the len low ones of a word.
 pub struct Word {
@@ -85,6 +90,24 @@ pub fn low_digits(order: usize) -> [u8; 64]
 {
     let i = order - 2;
     LOW_DIGITS[i]
+}
+
+// The same row, over what t holds, as `fibonacci::fill_positions` does it. Requires: the same.
+fn fill_low_digits(t: &mut [u8; 64], order: usize)
+    requires { ⌜ Order order ⌝ }
+    ensures { λ r. ⌜ now (t .exit) ≡ lowDigits order ⌝ }
+{
+    if order == 3 {
+        *t = LOW_DIGITS_3;
+    } else if order == 4 {
+        *t = LOW_DIGITS_4;
+    } else if order == 5 {
+        *t = LOW_DIGITS_5;
+    } else if order == 6 {
+        *t = LOW_DIGITS_6;
+    } else {
+        *t = LOW_DIGITS_2;
+    }
 }
 
 // The greedy digit of a position of value f: 1 where f is at most what is left, else 0. What is left comes with 2^32 added, and the difference reaches 2^32
@@ -166,4 +189,18 @@ pub fn coded(
     let bits = word_of(positions, firsts, low, order, n, d);
     let len = d + order;
     Word { bits, len }
+}
+
+// The codeword of one number, by tables of its own, for whoever puts no more than one. Requires: an order from 2 to 6 and a legal number, which appending checks.
+pub fn codeword(order: usize, n: u64) -> Word
+    requires { ⌜ Order order × (1 ≤ n) × (n ≤ maxNumber) ⌝ }
+    ensures { λ r. ⌜ Codes order n r ⌝ }
+{
+    let mut positions = [0u32; 47];
+    let mut firsts = [0u32; 47];
+    let mut low = [0u8; 64];
+    fibonacci::fill_positions(&mut positions, order);
+    fibonacci::fill_first_numbers(&mut firsts, order);
+    fill_low_digits(&mut low, order);
+    coded(&positions, &firsts, &low, order, n)
 }

@@ -148,6 +148,10 @@ pub rows-recur : (t : List (List ℕ)) (z : List ℕ) (m : ℕ) → Order m → 
     → recurs m (getD t (m - 2) z) ≡ true
 rows-recur t z m h e = each-order (λ m. recurs m (getD t (m - 2) z)) true e m h
 
+-- one over a row, that of order k, where k is the order
+pub row-recurs : (k m : ℕ) (row : List ℕ) → k ≡ m → recurs k row ≡ true → recurs m row ≡ true
+row-recurs k m row e h = rw e at h
+
 module _ (m : ℕ) (h : Order m) where
   -- every position value up to the largest number stands in the row
   pub position-within : (j : ℕ) → F m j ≤ maxNumber → j < 47
