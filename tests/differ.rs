@@ -3,6 +3,8 @@
 //! The library is called through the crate `probe`. Some seeds are the same in every run; one more comes from the clock, or is the argument, and is printed.
 
 mod model;
+#[path = "differ/appending.rs"]
+mod appending;
 #[path = "differ/border.rs"]
 mod border;
 #[path = "differ/codec.rs"]
@@ -71,6 +73,7 @@ fn fixed_codec(border: &mut Border, ledger: &mut Ledger) {
     codec.every();
     codec.limits();
     codec.words();
+    codec.appending();
     codec.dense();
 }
 

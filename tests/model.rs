@@ -12,6 +12,8 @@ use std::rc::Rc;
 pub const MAX_NUMBER: u128 = 4_294_967_295;
 pub const MAX_COUNT: usize = 4_096;
 pub const MOST_BYTES: u64 = 24_064;
+pub const MOST_BITS: u64 = 192_512;
+pub const MOST_TOTAL: u64 = 17_592_186_040_320;
 pub const MOST_DENSE_BYTES: u64 = 102_400;
 pub const LARGEST_ALPHABET: u64 = 4_096;
 
@@ -232,8 +234,9 @@ fn legal_row(numbers: impl Iterator<Item = u128>) -> Result<Vec<u32>, Refusal> {
     Ok(row)
 }
 
-/// The row of an encoding, or the refusal of every call that reads one: 1; 2; 4 or 7 at each finished codeword, from the left; 6.
-pub fn row_of(order: u64, bytes: &[u8]) -> Result<Vec<u32>, Refusal> {
+/// The row of an encoding and the bits that its codewords have, or the refusal of every call that reads one: 1; 2; 4 or 7 at each finished codeword, from the
+/// left; 6.
+fn row_and_bits_of(order: u64, bytes: &[u8]) -> Result<(Vec<u32>, u64), Refusal> {
     if !(2..=6).contains(&order) {
         return Err(refusal(1));
     }
@@ -246,13 +249,25 @@ pub fn row_of(order: u64, bytes: &[u8]) -> Result<Vec<u32>, Refusal> {
     if rest.len() >= 8 || rest.contains(&true) {
         return Err(refusal(6));
     }
-    Ok(row)
+    Ok((row, codewords.iter().map(|codeword| codeword.len() as u64).sum()))
+}
+
+pub fn row_of(order: u64, bytes: &[u8]) -> Result<Vec<u32>, Refusal> {
+    row_and_bits_of(order, bytes).map(|(row, _)| row)
 }
 
 // ---- The calls ----
 
-/// Writing a row: the bytes and the bits of its encoding.
-pub fn write(order: u64, row: &[u32], output: &mut [u8]) -> Answer<(u64, u64)> {
+/// What goes with an encoding, paper 02's head: the bits in use, how many numbers they hold, and their total.
+#[derive(Clone, Copy, Default, PartialEq, Eq, Debug)]
+pub struct Header {
+    pub bits: u64,
+    pub count: u64,
+    pub total: u64,
+}
+
+/// Writing a row: the bytes of its encoding, and its header.
+pub fn write(order: u64, row: &[u32], output: &mut [u8]) -> Answer<(u64, Header)> {
     if !(2..=6).contains(&order) {
         return Answer::no(refusal(1));
     }
@@ -268,7 +283,7 @@ pub fn write(order: u64, row: &[u32], output: &mut [u8]) -> Answer<(u64, u64)> {
         return Answer::no(refusal(5));
     }
     output[..bytes.len()].copy_from_slice(&bytes);
-    Answer::yes((bytes.len() as u64, bits.len() as u64))
+    Answer::yes((bytes.len() as u64, Header { bits: bits.len() as u64, count: row.len() as u64, total: sum(row) }))
 }
 
 /// A row that was read, in the output: how many numbers it has; 5 where the output is shorter.
@@ -313,32 +328,56 @@ pub fn table_read_bytes(bytes: &[u8], output: &mut [u8]) -> Answer<u64> {
     Answer::yes(row.len() as u64)
 }
 
-/// Appending a number to the encoding in the first bytes of a buffer: the bytes then in use and the numbers in them. The longer encoding is what
-/// writing the longer row gives.
-pub fn append(order: u64, buffer: &mut [u8], used: u64, n: u32) -> Answer<(u64, u64)> {
+/// The header of an encoding that comes without one: the bits that its codewords have, how many they are, and their total.
+pub fn header(order: u64, bytes: &[u8]) -> Answer<Header> {
+    match row_and_bits_of(order, bytes) {
+        Ok((row, bits)) => Answer::yes(Header { bits, count: row.len() as u64, total: sum(&row) }),
+        Err(refusal) => Answer::no(refusal),
+    }
+}
+
+/// The bytes of a buffer that so many bits reach, or nothing where it has fewer.
+fn reached(buffer: &[u8], bits: u64) -> Option<&[u8]> {
+    let bytes = bits / 8 + (bits % 8 > 0) as u64;
+    if bytes > buffer.len() as u64 {
+        return None;
+    }
+    Some(&buffer[..bytes as usize])
+}
+
+/// Whether a header is true in an order: reading the bytes of the buffer that its bits reach gives it.
+pub fn is_true(order: u64, buffer: &[u8], given: Header) -> bool {
+    match reached(buffer, given.bits).map(|bytes| header(order, bytes)) {
+        Some(a) => a.number == 0 && a.results == given,
+        None => false,
+    }
+}
+
+/// Appending a number by a header, true or false (paper 02's R-4): the bytes then in use, and the header then. The bits in use stay as they are, whatever they
+/// are; the codeword comes after them, and zeros up to the end of its last byte. 18 looks at the header that is given, and at no other.
+pub fn append(order: u64, buffer: &mut [u8], header: Header, n: u32) -> Answer<(u64, Header)> {
     if !(2..=6).contains(&order) {
         return Answer::no(refusal(1));
     }
-    if used > MOST_BYTES || used > buffer.len() as u64 {
-        return Answer::no(refusal(2));
+    let exceed = |bits: u64| bits > 8 * buffer.len() as u64 || bits > MOST_BITS;
+    if exceed(header.bits) || header.count > MAX_COUNT as u64 || header.total > MOST_TOTAL {
+        return Answer::no(refusal(18));
     }
-    let mut row = match row_of(order, &buffer[..used as usize]) {
-        Ok(row) => row,
-        Err(refusal) => return Answer::no(refusal),
-    };
     if n == 0 {
         return Answer::no(refusal(3));
     }
-    if row.len() == MAX_COUNT {
+    if header.count == MAX_COUNT as u64 {
         return Answer::no(refusal(4));
     }
-    row.push(n);
-    let bytes = encoding(order as usize, &row);
-    if buffer.len() < bytes.len() {
+    let mut bits = unpack(reached(buffer, header.bits).unwrap());
+    bits.truncate(header.bits as usize);
+    bits.extend(codeword(order as usize, n as u128));
+    if exceed(bits.len() as u64) {
         return Answer::no(refusal(5));
     }
+    let bytes = pack(&bits);
     buffer[..bytes.len()].copy_from_slice(&bytes);
-    Answer::yes((bytes.len() as u64, row.len() as u64))
+    Answer::yes((bytes.len() as u64, Header { bits: bits.len() as u64, count: header.count + 1, total: header.total + n as u64 }))
 }
 
 pub fn sum(row: &[u32]) -> u64 {

@@ -529,11 +529,11 @@ fn trees(s: &mut Sources) {
 
 // Paper 01's examples, from its own text
 const PAPER_01: [(&str, &str); 24] = [
-    ("room 0 write 2", "bytes 0, bits 0"),
+    ("room 0 write 2", "bytes 0, bits 0,"),
     ("total 2 0 0", "total 0;"),
-    ("room 3 write 2 3 1 4 2 1", "bytes 2, bits 15; output 3E DE A5;"),
+    ("room 3 write 2 3 1 4 2 1", "bytes 2, bits 15, count 5, total 11; output 3E DE A5;"),
     ("codewords 3 600", "600 0110110110111;"),
-    ("room 3 write 3 600", "bytes 2, bits 13; output 6D B8 A5;"),
+    ("room 3 write 3 600", "bytes 2, bits 13, count 1, total 600; output 6D B8 A5;"),
     ("room 1 write 3 1", "output E0;"),
     ("room 1 write 6 2", "output 7E;"),
     ("room 4 read 2 FF", "count 4; output 1 1 1 1;"),
@@ -546,17 +546,17 @@ const PAPER_01: [(&str, &str); 24] = [
     ("select 2 4 5 1 3 6B 40", "NO 12:"),
     ("room 0 build 2 1 1 1", "bits 0; output none;"),
     ("extract 2 1 2 1", "number 1, visits 0;"),
-    ("room 1024 write 2 1x4096", "bytes 1024, bits 8192;"),
+    ("room 1024 write 2 1x4096", "bytes 1024, bits 8192, count 4096, total 4096;"),
     ("room 1025 write 2 1x4097", "NO 4:"),
     ("room 4097 read 2 FFx1024 C0", "NO 4:"),
-    ("room 6 write 2 4294967295", "bytes 6, bits 47;"),
+    ("room 6 write 2 4294967295", "bytes 6, bits 47, count 1, total 4294967295;"),
     ("room 1 read 2 A4 88 08 A2 A1 16", "NO 7, place 0:"),
     ("table-value 1 4 B7", "value 267;"),
     ("repeated-total 3 11 0 6D B8", "total 6600;"),
 ];
 
 // What decides where a sentence can be read in two ways
-const READ_AS: [(&str, &str); 49] = [
+const READ_AS: [(&str, &str); 46] = [
     ("room 4096 read 2 A4 88 08 A2 A1 17 FFx1024 80", "NO 7, place 0:"),
     ("room 4096 read 2 FFx1024 A4 88 08 A2 A1 16", "NO 4:"),
     ("room 4096 read 2 FFx1023 A4 88 08 A2 A1 16 FF FF", "NO 7, place 4092:"),
@@ -572,14 +572,10 @@ const READ_AS: [(&str, &str); 49] = [
     ("room 1 write 9 0", "NO 1:"),
     ("room 0 write 2 0x4097", "NO 4:"),
     ("room 0 write 2 5 0", "NO 3, place 1:"),
-    ("used 1 append 2 0 00", "NO 6:"),
-    ("used 1024 append 2 0 FFx1024", "NO 3, place 0:"),
-    ("used 1024 append 2 1 FFx1024 00", "NO 4:"),
-    ("used 1025 append 2 0 FFx1024 C0", "NO 4:"),
-    ("used 4 append 2 1 C0 00 00", "NO 2:"),
-    ("used 4 append 7 1 C0 00 00", "NO 1:"),
-    ("used 1 append 2 2 C0 FF FF", "bytes 1, count 2; buffer D8 FF FF;"),
-    ("used 1 append 2 4 FC FF FF", "bytes 2, count 4; buffer FE C0 FF;"),
+    ("room 1024 append 2 0 8192 4096 4096 FFx1024", "NO 3, place 0:"),
+    ("room 1025 append 2 1 8192 4096 4096 FFx1024", "NO 4:"),
+    ("room 3 append 2 2 2 1 1 C0 FF FF", "bytes 1, bits 5, count 2, total 3; buffer D8 FF FF;"),
+    ("room 3 append 2 4 6 3 3 FC FF FF", "bytes 2, bits 10, count 4, total 7; buffer FE C0 FF;"),
     ("total 2 2 2 3E DE", "total 0;"),
     ("total 2 5 5 3E DE", "total 0;"),
     ("total 2 6 6 3E DE", "NO 8:"),
@@ -601,7 +597,8 @@ const READ_AS: [(&str, &str); 49] = [
     ("extract 2 4 5 9 6B", "NO 11:"),
     ("rank 2 4096 0 987 0", "visits 16;"),
     ("room 4 table-read-bytes E0", "count 1; output 01 00 00 00;"),
-    ("room 3 table-read-bytes E0", "NO 5: the output is too short; output A5 A5 A5;"),
+    ("room 3 table-read-bytes E0", "; output A5 A5 A5;"),
+    ("room 3 table-read-bytes E0", "NO 5:"),
     ("room 5 table-read-bytes E0", "count 1; output 01 00 00 00 A5;"),
     ("room 8 table-read-bytes E6 0B 2C 14 8D C0", "NO 7, place 1:"),
     ("table-row 2 BF", "inside 2 1;"),
@@ -624,7 +621,7 @@ const R_1: [(&str, &str); 11] = [
 ];
 
 // Paper 02's R-2: its four examples, and what decides where a sentence can be read in two ways
-const R_2: [(&str, &str); 41] = [
+const R_2: [(&str, &str); 42] = [
     ("dense-write 128 128", "bytes 1; encoding 7F;"),
     ("dense-write 128 129", "bytes 2; encoding 80 00;"),
     ("dense-write 128 16512", "bytes 2; encoding FF 7F;"),
@@ -655,7 +652,8 @@ const R_2: [(&str, &str); 41] = [
     ("room 0 dense-write 128 0x4097", "NO 4:"),
     ("room 0 dense-write 128 0x4096", "NO 3, place 0:"),
     ("room 3 dense-write 128 5 0 0", "NO 3, place 1:"),
-    ("room 1 dense-write 128 129", "NO 5: the output is too short; output A5;"),
+    ("room 1 dense-write 128 129", "NO 5:"),
+    ("room 1 dense-write 128 129", "; output A5;"),
     ("room 0 dense-read 0 00x102401", "NO 16:"),
     ("dense-read 128 00x102400", "NO 4:"),
     ("dense-read 128 00x102401", "NO 2:"),
@@ -667,6 +665,108 @@ const R_2: [(&str, &str); 41] = [
     ("room 0 dense-read 128 00 80", "NO 17:"),
     ("room 0 dense-read 128 00", "NO 5:"),
 ];
+
+// Paper 02's R-4: what decides where a sentence can be read in two ways. The largest total is 4,096 times 4,294,967,295.
+const R_4: [(&str, &str); 58] = [
+    // writing returns the head, and a strip without one is read for it
+    ("write 2 3 1 4 2 1", "bytes 2, bits 15, count 5, total 11; encoding 3E DE;"),
+    ("write 2", "bytes 0, bits 0, count 0, total 0;"),
+    ("write 2 4294967295x4096", "bytes 24064, bits 192512, count 4096, total 17592186040320;"),
+    ("header 2 3E DE", "bits 15, count 5, total 11;"),
+    ("header 2", "bits 0, count 0, total 0;"),
+    ("header 3 6D B8", "bits 13, count 1, total 600;"),
+    ("header 7 00x24065", "NO 1:"),
+    ("header 2 00x24064", "NO 6:"),
+    ("header 2 00x24065", "NO 2:"),
+    ("header 2 FFx24065", "NO 2:"),
+    ("header 2 FFx1024", "bits 8192, count 4096, total 4096;"),
+    ("header 2 FFx1024 C0", "NO 4:"),
+    ("header 2 24 88 08 A2 A1 16", "bits 47, count 1, total 4294967295;"),
+    ("header 2 A4 88 08 A2 A1 16", "NO 7, place 0:"),
+    ("header 2 FFx1024 A4 88 08 A2 A1 16", "NO 4:"),
+    ("header 2 A4 88 08 A2 A1 17 FFx1024 80", "NO 7, place 0:"),
+    ("header 2 FFx1024 C0 00", "NO 4:"),
+    ("header 2 A4 88 08 A2 A1 16 00", "NO 7, place 0:"),
+    ("header 2 E0", "NO 6:"),
+    // append after append is writing; a head that was read will do
+    ("append 2 600 15 5 11 3E DE", "bytes 4, bits 29, count 6, total 611; encoding 3E DE 45 58;"),
+    ("header 2 3E DE 45 58", "bits 29, count 6, total 611;"),
+    ("append 2 1 29 6 611 3E DE 45 58", "bytes 4, bits 31, count 7, total 612; encoding 3E DE 45 5E;"),
+    ("room 3 append 2 1 0 0 0 FF FF FF", "bytes 1, bits 2, count 1, total 1; buffer C0 FF FF;"),
+    // FF reads as 1, 1, 1, 1, so that a head of one 1 is false of it: dirty fill. The bits that it names are kept, and it goes up by the codeword
+    ("header 2 FF", "bits 8, count 4, total 4;"),
+    ("room 1 append 2 1 2 1 1 FF", "bytes 1, bits 4, count 2, total 2; buffer F0;"),
+    ("room 1 append 2 1 2 1 1 C0", "bytes 1, bits 4, count 2, total 2; buffer F0;"),
+    ("room 2 append 3 1 6 2 2 FC", "bytes 2, bits 9, count 3, total 3; buffer FF 80;"),
+    ("room 2 append 2 1 6 2 2 FC", "bytes 1, bits 8, count 3, total 3; buffer FF A5;"),
+    // 1, then 18, by the head that is given
+    ("room 1 append 7 0 9 4097 17592186040321 C0", "NO 1:"),
+    ("room 1 append 2 1 8 1 1 C0", "NO 5:"),
+    ("room 1 append 2 1 9 1 1 C0", "NO 18:"),
+    ("room 24065 append 2 1 192510 0 0", "bytes 24064, bits 192512, count 1, total 1;"),
+    ("room 24065 append 2 1 192512 0 0", "NO 5:"),
+    ("room 24065 append 2 1 192513 0 0", "NO 18:"),
+    ("room 2 append 2 1 2 4095 1 C0", "bytes 1, bits 4, count 4096, total 2;"),
+    ("room 2 append 2 1 2 4096 1 C0", "NO 4:"),
+    ("room 2 append 2 1 2 4097 1 C0", "NO 18:"),
+    ("room 2 append 2 1 2 1 17592186040321 C0", "NO 18:"),
+    // a total at the limit takes one number, and the next append gets 18
+    ("room 2 append 2 1 2 1 17592186040320 C0", "bytes 1, bits 4, count 2, total 17592186040321; buffer F0 A5;"),
+    ("room 2 append 2 1 4 2 17592186040321 F0", "NO 18:"),
+    ("room 7 append 2 4294967295 2 1 17592186040320 C0", "bytes 7, bits 49, count 2, total 17596481007615;"),
+    ("room 7 append 2 1 49 2 17596481007615 C9 22 02 28 A8 45 80", "NO 18:"),
+    // then 3, 4, 5
+    ("room 1 append 2 0 9 0 0 C0", "NO 18:"),
+    ("room 2 append 2 0 2 4097 1 C0", "NO 18:"),
+    ("room 1 append 2 0 2 1 17592186040321 C0", "NO 18:"),
+    ("room 1 append 2 1 9 4096 0 C0", "NO 18:"),
+    ("room 2 append 2 0 2 4096 1 C0", "NO 3, place 0:"),
+    ("room 1 append 2 0 8 4 4 FF", "NO 3, place 0:"),
+    ("room 1024 append 2 1 8192 4096 4096 FFx1024", "NO 4:"),
+    ("room 1 append 2 1 8 4 4 FF", "NO 5:"),
+    // 5 also where the bits would pass 192,512
+    ("room 24064 append 2 1 192500 0 0", "bytes 24063, bits 192502, count 1, total 1;"),
+    ("room 24064 append 2 4294967295 192500 0 0", "NO 5:"),
+    ("room 24070 append 2 4294967295 192465 0 0", "bytes 24064, bits 192512, count 1, total 4294967295;"),
+    ("room 24070 append 2 4294967295 192466 0 0", "NO 5:"),
+    ("room 24064 append 2 4294967295 192465 4095 17587891073025", "bytes 24064, bits 192512, count 4096, total 17592186040320;"),
+    ("room 24064 append 2 1 192512 4096 17592186040320", "NO 4:"),
+    ("room 24064 append 2 0 192512 4096 17592186040320", "NO 3, place 0:"),
+    // a refusal writes nothing
+    ("room 2 append 2 1 2 1 17592186040321 C0", "; buffer C0 A5;"),
+];
+
+// .. and which heads are true: reading the bytes that the bits reach, in that order, gives them. What comes after those bytes is not read.
+const TRUE: [(u64, &[u8], [u64; 3], bool); 20] = [
+    (2, &[0x3E, 0xDE], [15, 5, 11], true),
+    (2, &[0x3E, 0xDE, 0xFF], [15, 5, 11], true),
+    (2, &[0x3E, 0xDF], [15, 5, 11], false),
+    (2, &[0x3E], [15, 5, 11], false),
+    (2, &[0x3E, 0xDE], [14, 5, 11], false),
+    (2, &[0x3E, 0xDE], [16, 5, 11], false),
+    (2, &[0x3E, 0xDE], [15, 4, 11], false),
+    (2, &[0x3E, 0xDE], [15, 5, 12], false),
+    (2, &[0xFF], [2, 1, 1], false),
+    (2, &[0xFF], [8, 4, 4], true),
+    (2, &[0xC0], [2, 1, 1], true),
+    (2, &[0xC0, 0xFF], [2, 1, 1], true),
+    (2, &[0xF0], [4, 2, 2], true),
+    (2, &[0xFC], [6, 3, 3], true),
+    (3, &[0xFC], [6, 3, 3], false),
+    (3, &[0xFC], [6, 2, 2], true),
+    (2, &[], [0, 0, 0], true),
+    (6, &[0xFF], [0, 0, 0], true),
+    (7, &[0xFF], [0, 0, 0], false),
+    (2, &[0xFF], [u64::MAX, 0, 0], false),
+];
+
+fn true_heads(s: &mut Sources) {
+    for (order, bytes, [bits, count, total], printed) in TRUE {
+        let is_true = model::is_true(order, bytes, model::Header { bits, count, total });
+        let place = format!("paper 02, R-4, order {order}, {bits} {count} {total} of{}", hexadecimal(bytes));
+        s.same(&place, &printed.to_string(), &is_true.to_string());
+    }
+}
 
 // Paper 01's listing
 const LISTING: &str = "\
@@ -703,7 +803,7 @@ fn listings(s: &mut Sources) {
 }
 
 fn papers(s: &mut Sources) {
-    for (request, part) in PAPER_01.iter().chain(&READ_AS).chain(&R_1).chain(&R_2) {
+    for (request, part) in PAPER_01.iter().chain(&READ_AS).chain(&R_1).chain(&R_2).chain(&R_4) {
         s.says(request, part);
     }
     for (alphabet, visits) in [(3, &[1, 2, 2][..]), (5, &[2, 2, 3, 2, 3])] {
@@ -743,6 +843,7 @@ fn main() {
     compressors(&mut s);
     trees(&mut s);
     papers(&mut s);
+    true_heads(&mut s);
     first_numbers_of_order_2(&mut s);
     listings(&mut s);
     for e in &ERRATA {

@@ -3,7 +3,7 @@
 // a program that compares no help uses a part of it
 #![allow(dead_code)]
 
-use crate::model::{self, Answer};
+use crate::model::{self, Answer, Header};
 use crate::table;
 use crate::words::{decimal, Words};
 
@@ -27,14 +27,13 @@ const LISTING_NUMBERS: usize = 4_099;
 enum Before {
     Nothing,
     Room(u64),
-    Used(u64),
 }
 
 /// Answers a request, or nothing where the line has another form.
 type Request = fn(Words, Before) -> Option<String>;
 
 /// Each request: its usage, which begins with its name, and its answer.
-const REQUESTS: [(&str, Request); 18] = [
+const REQUESTS: [(&str, Request); 19] = [
     ("codewords ORDER ROW", codewords),
     ("write ORDER ROW", write),
     ("read ORDER BYTES", read),
@@ -42,7 +41,8 @@ const REQUESTS: [(&str, Request); 18] = [
     ("table-read-bytes BYTES", table_read_bytes),
     ("dense-write STOPPERS ROW", dense_write),
     ("dense-read STOPPERS BYTES", dense_read),
-    ("append ORDER NUMBER BYTES", append),
+    ("header ORDER BYTES", header),
+    ("append ORDER NUMBER BITS COUNT TOTAL BYTES", append),
     ("total ORDER FROM TO BYTES", total),
     ("repeated-total ORDER REPEATS SHARED BYTES", repeated_total),
     ("build ORDER ALPHABET ROW", build),
@@ -84,10 +84,6 @@ pub fn answer(line: &[u8]) -> Said {
         Some(b"room") => match words.next().and_then(decimal) {
             Some(room) => request(words, Before::Room(room)),
             None => expected("room N REQUEST"),
-        },
-        Some(b"used") => match words.next().and_then(decimal) {
-            Some(used) => request(words, Before::Used(used)),
-            None => expected("used N append ORDER NUMBER BYTES"),
         },
         Some(_) => request(Words::new(line), Before::Nothing),
     }
@@ -184,7 +180,7 @@ impl Before {
         self.output(NUMBER_BEFORE, ROOM_NUMBERS, ENOUGH_NUMBERS)
     }
 
-    /// Before a request that takes neither a room nor bytes in use.
+    /// Before a request that takes no room.
     fn nothing(self) -> Option<()> {
         match self {
             Before::Nothing => Some(()),
@@ -196,10 +192,10 @@ impl Before {
 fn reason(number: u64) -> &'static str {
     match number {
         1 => "the order is not 2 to 6",
-        2 => "more bytes than an encoding can have, or more in use than the buffer has",
+        2 => "more bytes than an encoding can have",
         3 => "a number is 0",
         4 => "more than 4096 numbers",
-        5 => "the output is too short",
+        5 => "the output is too short, or more than 192512 bits would be in use",
         6 => "8 bits or more, or a one, remain after the last codeword",
         7 => "a number is above 4294967295",
         8 => "the place, the span or the use is not in the row",
@@ -211,6 +207,7 @@ fn reason(number: u64) -> &'static str {
         15 => "more is shared than the row's total",
         16 => "the stoppers are not 1 to 254",
         17 => "the bytes end inside a codeword",
+        18 => "the header has more bits, numbers or total than the buffer or a row can have",
         _ => panic!("{number} is no refusal"),
     }
 }
@@ -248,12 +245,22 @@ fn codewords(mut words: Words, before: Before) -> Option<String> {
     Some(plain(&a, all))
 }
 
+/// A header, as the answers tell it.
+fn told(header: &Header) -> String {
+    format!("bits {}, count {}, total {}", header.bits, header.count, header.total)
+}
+
+/// What writing and appending tell: the bytes in use, and the header.
+fn encoded((bytes, header): &(u64, Header)) -> String {
+    format!("bytes {bytes}, {}", told(header))
+}
+
 fn write(mut words: Words, before: Before) -> Option<String> {
     let order = words.number()?;
     let row = words.row()?;
     let mut output = before.bytes()?;
     let a = model::write(order, &row, &mut output.elements);
-    Some(shown(&a, |(bytes, bits)| format!("bytes {bytes}, bits {bits}"), &output, "encoding", a.results.0))
+    Some(shown(&a, encoded, &output, "encoding", a.results.0))
 }
 
 fn count(count: &u64) -> String {
@@ -298,28 +305,32 @@ fn dense_read(mut words: Words, before: Before) -> Option<String> {
     Some(shown(&a, count, &output, "row", a.results))
 }
 
-/// The buffer of an append, and how many of its bytes are in use.
-fn buffer(bytes: Vec<u8>, before: Before) -> Option<(Output<u8>, u64)> {
-    let in_use = bytes.len() as u64;
+fn header(mut words: Words, before: Before) -> Option<String> {
+    before.nothing()?;
+    let order = words.number()?;
+    let a = model::header(order, &words.bytes()?);
+    Some(plain(&a, told))
+}
+
+/// The buffer of an append, which begins with these bytes: six bytes longer, or of the room that the line has.
+fn buffer(bytes: Vec<u8>, before: Before) -> Option<Output<u8>> {
     match before {
-        Before::Nothing => Some((Output { elements: [bytes, vec![BYTE_BEFORE; 6]].concat(), whole: None }, in_use)),
-        Before::Used(used) => Some((Output { elements: bytes, whole: Some("buffer") }, used)),
-        Before::Room(room) => {
-            if room > ROOM_BYTES as u64 {
-                return None;
-            }
+        Before::Nothing => Some(Output { elements: [bytes, vec![BYTE_BEFORE; 6]].concat(), whole: None }),
+        Before::Room(room) if room <= ROOM_BYTES as u64 => {
             let mut elements = bytes;
             elements.resize(room as usize, BYTE_BEFORE);
-            Some((Output { elements, whole: Some("buffer") }, in_use))
+            Some(Output { elements, whole: Some("buffer") })
         }
+        _ => None,
     }
 }
 
 fn append(mut words: Words, before: Before) -> Option<String> {
     let (order, n) = (words.number()?, words.number_32()?);
-    let (mut output, used) = buffer(words.bytes()?, before)?;
-    let a = model::append(order, &mut output.elements, used, n);
-    Some(shown(&a, |(bytes, count)| format!("bytes {bytes}, count {count}"), &output, "encoding", a.results.0))
+    let header = Header { bits: words.number()?, count: words.number()?, total: words.number()? };
+    let mut output = buffer(words.bytes()?, before)?;
+    let a = model::append(order, &mut output.elements, header, n);
+    Some(shown(&a, encoded, &output, "encoding", a.results.0))
 }
 
 fn total(mut words: Words, before: Before) -> Option<String> {

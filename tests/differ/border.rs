@@ -8,6 +8,8 @@ use std::fmt::Write;
 use std::mem::size_of;
 use std::os::raw::{c_int, c_long, c_void};
 
+use crate::model::Header;
+
 // a slice of the library is a pointer and a length
 extern "C" {
     fn probe_write(order: usize, row: *const u32, row_len: usize, out: *mut u8, out_len: usize, answer: *mut u64, answer_len: usize);
@@ -16,7 +18,18 @@ extern "C" {
     fn probe_table_read_bytes(s: *const u8, s_len: usize, out: *mut u8, out_len: usize, answer: *mut u64, answer_len: usize);
     fn probe_dense_write(stoppers: usize, row: *const u32, row_len: usize, out: *mut u8, out_len: usize, answer: *mut u64, answer_len: usize);
     fn probe_dense_read(stoppers: usize, s: *const u8, s_len: usize, out: *mut u32, out_len: usize, answer: *mut u64, answer_len: usize);
-    fn probe_append(order: usize, buf: *mut u8, buf_len: usize, used: usize, n: u32, answer: *mut u64, answer_len: usize);
+    fn probe_header(order: usize, s: *const u8, s_len: usize, answer: *mut u64, answer_len: usize);
+    fn probe_append(
+        order: usize,
+        buf: *mut u8,
+        buf_len: usize,
+        bits: usize,
+        count: usize,
+        total: u64,
+        n: u32,
+        answer: *mut u64,
+        answer_len: usize,
+    );
     fn probe_total(order: usize, s: *const u8, s_len: usize, a: usize, b: usize, answer: *mut u64, answer_len: usize);
     fn probe_repeated_total(order: usize, s: *const u8, s_len: usize, repeats: u64, shared: u64, answer: *mut u64, answer_len: usize);
     fn probe_build(order: usize, alphabet: u32, row: *const u32, row_len: usize, out: *mut u8, out_len: usize, answer: *mut u64, answer_len: usize);
@@ -154,7 +167,7 @@ extern "C" fn touched(_: c_int) {
 // ---- Calls ----
 
 /// How many numbers a call tells: that of its answer, the place, and the results.
-pub const TOLD: usize = 5;
+pub const TOLD: usize = 6;
 
 pub type Told = [u64; TOLD];
 
@@ -250,8 +263,13 @@ impl Border {
         self.call(s, out, |s, ss, o, os, a, n| unsafe { probe_dense_read(stoppers, s, ss, o, os, a, n) })
     }
 
-    pub fn append(&mut self, order: usize, buf: &[u8], used: usize, number: u32) -> Called<u8> {
-        self.call(&[0u8; 0], buf, |_, _, b, bs, a, n| unsafe { probe_append(order, b, bs, used, number, a, n) })
+    pub fn header(&mut self, order: usize, s: &[u8]) -> Called<u8> {
+        self.call(s, &[], |s, ss, _, _, a, n| unsafe { probe_header(order, s, ss, a, n) })
+    }
+
+    pub fn append(&mut self, order: usize, buf: &[u8], header: Header, number: u32) -> Called<u8> {
+        let Header { bits, count, total } = header;
+        self.call(&[0u8; 0], buf, |_, _, b, bs, a, n| unsafe { probe_append(order, b, bs, bits as usize, count as usize, total, number, a, n) })
     }
 
     pub fn total(&mut self, order: usize, s: &[u8], from: usize, to: usize) -> Called<u8> {

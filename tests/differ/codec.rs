@@ -1,9 +1,9 @@
-//! Writing, the two readers, the dense code, appending and totals beside the model.
+//! Writing, the two readers, the dense code, headers, appending and totals beside the model.
 
 use crate::border::{told, Border, Called, Told, TOLD};
 use crate::encodings;
 use crate::ledger::Ledger;
-use crate::model::{self, Answer};
+use crate::model::{self, Answer, Header};
 use crate::random::Random;
 use crate::text::{bytes, numbers};
 
@@ -11,8 +11,45 @@ fn one(a: &Answer<u64>) -> Told {
     told(a.number, a.place, &[a.results])
 }
 
-fn two(a: &Answer<(u64, u64)>) -> Told {
-    told(a.number, a.place, &[a.results.0, a.results.1])
+fn encoded(a: &Answer<(u64, Header)>) -> Told {
+    let (bytes, header) = a.results;
+    told(a.number, a.place, &[bytes, header.bits, header.count, header.total])
+}
+
+/// What writing or appending leaves: the number of its answer, the bytes in use, the header, and the output. The library's answer is held to the model's
+/// before.
+#[derive(PartialEq, Debug)]
+pub struct Encoded {
+    pub number: u64,
+    pub bytes: usize,
+    pub header: Header,
+    pub output: Vec<u8>,
+}
+
+impl Encoded {
+    fn new(a: &Answer<(u64, Header)>, called: Called<u8>) -> Encoded {
+        Encoded { number: a.number, bytes: a.results.0 as usize, header: a.results.1, output: called.output }
+    }
+}
+
+/// An append's answer, and what decided it: of 18 and 5 the limit that is passed, where it is one alone; where all went well, whether the header was true.
+fn append_answer(number: u64, order: usize, buf: &[u8], header: Header, n: u32) -> String {
+    let passed = |bits: u64| vec![("buffer", bits > 8 * buf.len() as u64), ("bits", bits > model::MOST_BITS)];
+    let given = || vec![("count", header.count > model::MAX_COUNT as u64), ("total", header.total > model::MOST_TOTAL)];
+    let reasons = match number {
+        0 => {
+            let is_true = model::is_true(order as u64, buf, header);
+            vec![("true", is_true), ("false", !is_true)]
+        }
+        18 => [passed(header.bits), given()].concat(),
+        5 => passed(header.bits + model::codeword(order, n as u128).len() as u64),
+        _ => Vec::new(),
+    };
+    let reasons: Vec<&str> = reasons.iter().filter(|(_, holds)| *holds).map(|(reason, _)| *reason).collect();
+    match reasons[..] {
+        [one] => format!("{number} ({one})"),
+        _ => number.to_string(),
+    }
 }
 
 /// Each operation, called through the border and asked of the model.
@@ -23,12 +60,13 @@ pub struct Codec<'a> {
 }
 
 impl Codec<'_> {
-    pub fn write(&mut self, order: usize, row: &[u32], out: &[u8]) {
+    pub fn write(&mut self, order: usize, row: &[u32], out: &[u8]) -> Encoded {
         let called = self.border.write(order, row, out);
         let mut output = out.to_vec();
         let a = model::write(order as u64, row, &mut output);
         let arguments = || format!("write(order {order}, row {}, out {})", numbers(row), bytes(out));
-        self.ledger.compare("write", &a.number.to_string(), &called, two(&a), &output, arguments);
+        self.ledger.compare("write", &a.number.to_string(), &called, encoded(&a), &output, arguments);
+        Encoded::new(&a, called)
     }
 
     pub fn read(&mut self, order: usize, s: &[u8], out: &[u32]) {
@@ -73,16 +111,30 @@ impl Codec<'_> {
         called
     }
 
-    pub fn append(&mut self, order: usize, buf: &[u8], used: usize, n: u32) -> Called<u8> {
-        let called = self.border.append(order, buf, used, n);
+    /// The header that an encoding has, where it has one.
+    pub fn header(&mut self, order: usize, s: &[u8]) -> Option<Header> {
+        let called = self.border.header(order, s);
+        let a = model::header(order as u64, s);
+        let header = a.results;
+        let tells = told(a.number, a.place, &[header.bits, header.count, header.total]);
+        self.ledger.compare("header", &a.number.to_string(), &called, tells, &[], || format!("header(order {order}, s {})", bytes(s)));
+        if a.number == 0 { Some(header) } else { None }
+    }
+
+    /// .. From a true header comes a true one: it is what the bytes then in use have.
+    pub fn append(&mut self, order: usize, buf: &[u8], header: Header, n: u32) -> Encoded {
+        let called = self.border.append(order, buf, header, n);
         let mut output = buf.to_vec();
-        let a = model::append(order as u64, &mut output, used as u64, n);
-        // one 4 is that of a 4,097th codeword, the other that of a row that is full
-        let full = a.number == 4 && model::row_of(order as u64, &buf[..used]).is_ok();
-        let answer = if full { "4 (full)".to_string() } else { a.number.to_string() };
-        let arguments = || format!("append(order {order}, buf {}, used {used}, n {n})", bytes(buf));
-        self.ledger.compare("append", &answer, &called, two(&a), &output, arguments);
-        called
+        let a = model::append(order as u64, &mut output, header, n);
+        let answer = append_answer(a.number, order, buf, header, n);
+        let arguments = || format!("append(order {order}, buf {}, {header:?}, n {n})", bytes(buf));
+        self.ledger.compare("append", &answer, &called, encoded(&a), &output, arguments);
+        let appended = Encoded::new(&a, called);
+        if answer == "0 (true)" {
+            let has = self.header(order, &appended.output[..appended.bytes]);
+            self.ledger.same("a header after a true one", Some(appended.header), has, arguments);
+        }
+        appended
     }
 
     pub fn total(&mut self, order: usize, s: &[u8], from: usize, to: usize) {
@@ -124,8 +176,8 @@ impl Codec<'_> {
         self.ledger.same("the table decoder's rows", &into_bytes.output, &expected, arguments);
     }
 
-    /// What is written is read, and the row comes back; numbers appended one after the other are the row written.
-    fn round_trip(&mut self, order: usize, row: &[u32], encoding: &[u8]) {
+    /// What is written is read, and the row comes back; numbers appended one after the other are the row written. The header that is read is the result.
+    fn round_trip(&mut self, order: usize, row: &[u32], encoding: &[u8]) -> Header {
         let arguments = || format!("order {order}, row {}", numbers(row));
         let junk = self.random.numbers(row.len());
         let read = self.border.read(order, encoding, &junk);
@@ -134,14 +186,18 @@ impl Codec<'_> {
             let read = self.border.table_read(encoding, &junk);
             self.ledger.same("a round trip by bytes", &read.output[..], row, arguments);
         }
+        let header = self.header(order, encoding).unwrap();
         if row.len() <= 40 {
+            let mut so_far = Header::default();
             let mut buffer = self.random.bytes(encoding.len());
-            for place in 0..row.len() {
-                let used = model::encoding(order, &row[..place]).len();
-                buffer = self.append(order, &buffer, used, row[place]).output;
+            for n in row {
+                let appended = self.append(order, &buffer, so_far, *n);
+                so_far = appended.header;
+                buffer = appended.output;
             }
-            self.ledger.same("numbers appended", &buffer[..], encoding, arguments);
+            self.ledger.same("numbers appended", (&buffer[..], so_far), (encoding, header), arguments);
         }
+        header
     }
 
     // ---- Random cases ----
@@ -154,9 +210,12 @@ impl Codec<'_> {
         let encoding = if legal { model::encoding(order, &row) } else { Vec::new() };
         let room = if legal { self.random.room(encoding.len()) } else { self.random.below(60) };
         let out = self.random.bytes(room);
-        self.write(order, &row, &out);
+        let written = self.write(order, &row, &out);
         if legal {
-            self.round_trip(order, &row, &encoding);
+            let header = self.round_trip(order, &row, &encoding);
+            if written.number == 0 {
+                self.ledger.same("a header", written.header, header, || format!("order {order}, row {}", numbers(&row)));
+            }
         }
     }
 
@@ -182,7 +241,8 @@ impl Codec<'_> {
         let repeats = self.random.around(10_000) as u64;
         let shared = self.random.around(model::sum(&row) as usize) as u64;
         self.repeated_total(order, &s, repeats, shared);
-        self.append_case(order, s);
+        self.header(order, &s);
+        self.append_case(order, made, s);
     }
 
     fn table_case(&mut self, s: &[u8]) {
@@ -194,22 +254,6 @@ impl Codec<'_> {
         let room = self.random.room(4 * count);
         let out = self.random.bytes(room);
         self.table_read_bytes(s, &out);
-    }
-
-    /// The encoding stands in a buffer that has no room, just room enough, or more.
-    fn append_case(&mut self, order: usize, s: Vec<u8>) {
-        let used = if self.random.once_in(8) { self.random.around(s.len()) } else { s.len() };
-        let n = match self.random.below(8) {
-            0 => 0,
-            1 => u32::MAX,
-            2 | 3 => 1,
-            _ => encodings::number(self.random, order),
-        };
-        let mut buffer = s;
-        let more = self.random.below(10);
-        let tail = self.random.bytes(more);
-        buffer.extend(tail);
-        self.append(order, &buffer, used, n);
     }
 
     /// The limits themselves, at each of which the answer changes.
@@ -235,11 +279,13 @@ impl Codec<'_> {
                 for repeats in [0, 1, 2, 10_000, 10_001, u64::MAX] {
                     self.repeated_totals(order, &s, repeats);
                 }
+                self.header(order, &s);
+                let header = Header { bits: (ones * order) as u64, count: ones as u64, total: ones as u64 };
                 for n in [0, 1, 2, u32::MAX] {
                     let mut buffer = s.clone();
-                    self.append(order, &buffer, s.len(), n);
+                    self.append(order, &buffer, header, n);
                     buffer.extend([0xA5; 9]);
-                    self.append(order, &buffer, s.len(), n);
+                    self.append(order, &buffer, header, n);
                 }
             }
             self.long_strings(order);
@@ -268,15 +314,14 @@ impl Codec<'_> {
         for repeats in [10_000, 10_001] {
             self.repeated_totals(order, &s, repeats);
         }
+        let full = self.header(order, &s).unwrap();
         let most = [&s[..], &[0xA5; 24_064]].concat();
         for n in [0, 1] {
-            self.append(order, &most[..24_064], s.len(), n);
+            self.append(order, &most[..24_064], full, n);
         }
-        let fewer = model::encoding(order, &[u32::MAX; 4095]);
         for room in [s.len() - 1, s.len(), s.len() + 1] {
-            let mut buffer = vec![0xA5; room];
-            buffer[..fewer.len()].copy_from_slice(&fewer);
-            self.append(order, &buffer, fewer.len(), u32::MAX);
+            let fewer = self.write(order, &[u32::MAX; 4095], &vec![0xA5; room]);
+            self.append(order, &fewer.output, fewer.header, u32::MAX);
         }
     }
 
@@ -301,9 +346,7 @@ impl Codec<'_> {
             self.total(order, &s, 0, 4096);
             self.repeated_total(order, &s, 10_000, 0);
             self.repeated_total(order, &s, 10_000, u64::MAX);
-            self.append(order, &s, s.len(), 1);
-            self.append(order, &s, s.len() + 1, 1);
-            self.append(order, &s, 1, 1);
+            self.header(order, &s);
         }
     }
 }

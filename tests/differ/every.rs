@@ -74,6 +74,7 @@ impl Codec<'_> {
     fn small_string(&mut self, order: usize, s: &[u8]) {
         self.read(order, s, &[7; 9]);
         self.total(order, s, 0, 1);
+        self.header(order, s);
         if order == 3 {
             self.table_read(s, &[7; 6]);
             self.table_read_bytes(s, &[7; 22]);
@@ -90,6 +91,7 @@ impl Codec<'_> {
                 assert!(count > 0);
                 self.read(order, &s, &vec![7; count]);
                 self.total(order, &s, 0, count);
+                self.header(order, &s);
                 if order == 3 {
                     self.table_read(&s, &vec![7; count]);
                     self.table_read_bytes(&s, &vec![7; 4 * count + 3]);
@@ -117,6 +119,7 @@ impl Codec<'_> {
             self.write(order, row, &vec![0xA5; s.len()]);
             self.read(order, &s, &vec![7; row.len()]);
             self.total(order, &s, 0, row.len());
+            self.header(order, &s);
             if order == 3 {
                 self.table_read(&s, &vec![7; row.len()]);
                 self.table_read_bytes(&s, &vec![7; 4 * row.len()]);

@@ -5,15 +5,16 @@ use std::fmt::Debug;
 use crate::border::{Called, Told, CASE, SEED};
 
 /// Each operation, with the answers that the papers give it: every one has to come, and no other may. Those of the listing are told by its text, and 5 by an
-/// output that the text does not fit.
-const OPERATIONS: [(&str, &[&str]); 14] = [
+/// output that the text does not fit. Those of appending tell besides whether the header was true, and which limit was passed, where it was one alone.
+const OPERATIONS: [(&str, &[&str]); 15] = [
     ("write", &["0", "1", "4", "3", "5"]),
     ("read", &["0", "1", "2", "4", "7", "6", "5"]),
     ("table_read", &["0", "2", "4", "7", "6", "5"]),
     ("table_read_bytes", &["0", "2", "4", "7", "6", "5"]),
     ("dense_write", &["0", "16", "4", "3", "5"]),
     ("dense_read", &["0", "16", "2", "4", "7", "17", "5"]),
-    ("append", &["0", "1", "2", "4", "7", "6", "3", "4 (full)", "5"]),
+    ("header", &["0", "1", "2", "4", "7", "6"]),
+    ("append", &["0 (true)", "0 (false)", "1", "18 (buffer)", "18 (bits)", "18 (count)", "18 (total)", "18", "3", "4", "5 (buffer)", "5 (bits)", "5"]),
     ("total", &["0", "1", "2", "4", "7", "6", "8"]),
     ("repeated_total", &["0", "1", "2", "4", "7", "6", "14", "15"]),
     ("build", &["0", "1", "9", "4", "10", "5"]),

@@ -108,8 +108,10 @@ impl Codec<'_> {
         let total = row.map_or(0, |row| model::sum(&row));
         let shared = self.random.around(total as usize) as u64;
         self.repeated_total(order, s, repeats, shared);
-        let n = encodings::number(self.random, order);
-        self.append(order, &[s, &[0xA5; 8]].concat(), s.len(), n);
+        if let Some(header) = self.header(order, s) {
+            let n = encodings::number(self.random, order);
+            self.append(order, &[s, &[0xA5; 8]].concat(), header, n);
+        }
     }
 
     /// Bits that end in a codeword: as they are, and before two words and more of small numbers.

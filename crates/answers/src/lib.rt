@@ -1,15 +1,14 @@
-// What a call answers as five numbers: the papers' answer number, the place, and three results, which are zeros where there are none. The console and the
+// What a call answers as six numbers: the papers' answer number, the place, and four results, which are zeros where there are none. The console and the
 // probes go by it.
 ghost use mathlib.Core.Path.{_≡_};
 ghost use Rattle.calls.specs.Calls.{accepted, refused, countOutcome};
 ghost use Rattle.totals.specs.Totals.{totalOutcome};
-ghost use Rattle.encoder.specs.Writing.{writeOutcome};
-ghost use Rattle.appender.specs.Appending.{appendOutcome};
+ghost use Rattle.headers.specs.Headers.{headerOutcome, encodingOutcome};
 ghost use Rattle.wavelet.specs.Answers.{questionOutcome};
-ghost use Rattle.answers.specs.Leaves.{five, single, pair, values};
-use appender::AppendAnswer;
+ghost use Rattle.answers.specs.Leaves.{six, single, pair, three, headed, values};
 use calls::CountAnswer;
-use encoder::WriteAnswer;
+use headers::EncodingAnswer;
+use headers::HeaderAnswer;
 use totals::TotalAnswer;
 use wavelet::QuestionAnswer;
 
@@ -19,10 +18,11 @@ pub struct Answer {
     pub first: u64,
     pub second: u64,
     pub third: u64,
+    pub fourth: u64,
 }
 
-fn accepted(first: u64, second: u64, third: u64) -> Answer
-    ensures { λ r. ⌜ values r ≡ five (accepted (first, second, third)) ⌝ }
+fn accepted(first: u64, second: u64, third: u64, fourth: u64) -> Answer
+    ensures { λ r. ⌜ values r ≡ six (accepted (first, second, third, fourth)) ⌝ }
 {
     Answer {
         number: 0,
@@ -30,11 +30,12 @@ fn accepted(first: u64, second: u64, third: u64) -> Answer
         first,
         second,
         third,
+        fourth,
     }
 }
 
 fn refused(r: calls::Refusal) -> Answer
-    ensures { λ x. ⌜ values x ≡ five (refused r) ⌝ }
+    ensures { λ x. ⌜ values x ≡ six (refused r) ⌝ }
 {
     let reason = calls::reason(r);
     Answer {
@@ -43,50 +44,53 @@ fn refused(r: calls::Refusal) -> Answer
         first: 0,
         second: 0,
         third: 0,
+        fourth: 0,
     }
 }
 
 pub fn of_count(a: CountAnswer) -> Answer
-    ensures { λ r. ⌜ values r ≡ five (single (countOutcome a)) ⌝ }
+    ensures { λ r. ⌜ values r ≡ six (single (countOutcome a)) ⌝ }
 {
     match a {
-        CountAnswer::Count(n) => accepted(n as u64, 0, 0),
+        CountAnswer::Count(n) => accepted(n as u64, 0, 0, 0),
         CountAnswer::Refused(r) => refused(r),
     }
 }
 
 pub fn of_total(a: TotalAnswer) -> Answer
-    ensures { λ r. ⌜ values r ≡ five (single (totalOutcome a)) ⌝ }
+    ensures { λ r. ⌜ values r ≡ six (single (totalOutcome a)) ⌝ }
 {
     match a {
-        TotalAnswer::Sum(total) => accepted(total, 0, 0),
+        TotalAnswer::Sum(total) => accepted(total, 0, 0, 0),
         TotalAnswer::Refused(r) => refused(r),
     }
 }
 
-pub fn of_write(a: WriteAnswer) -> Answer
-    ensures { λ r. ⌜ values r ≡ five (pair (writeOutcome a)) ⌝ }
+pub fn of_header(a: HeaderAnswer) -> Answer
+    ensures { λ r. ⌜ values r ≡ six (three (headerOutcome a)) ⌝ }
 {
     match a {
-        WriteAnswer::Written { bytes, bits } => accepted(bytes as u64, bits as u64, 0),
-        WriteAnswer::Refused(r) => refused(r),
+        HeaderAnswer::Found(h) => accepted(h.bits as u64, h.count as u64, h.total, 0),
+        HeaderAnswer::Refused(r) => refused(r),
     }
 }
 
-pub fn of_append(a: AppendAnswer) -> Answer
-    ensures { λ r. ⌜ values r ≡ five (pair (appendOutcome a)) ⌝ }
+pub fn of_encoding(a: EncodingAnswer) -> Answer
+    ensures { λ r. ⌜ values r ≡ six (headed (encodingOutcome a)) ⌝ }
 {
     match a {
-        AppendAnswer::Appended { bytes, count } => accepted(bytes as u64, count as u64, 0),
-        AppendAnswer::Refused(r) => refused(r),
+        EncodingAnswer::Encoded { bytes, header: h } => {
+            accepted(bytes as u64, h.bits as u64, h.count as u64, h.total)
+        }
+        EncodingAnswer::Refused(r) => refused(r),
     }
 }
 
 pub fn of_question(a: QuestionAnswer) -> Answer
-    ensures { λ r. ⌜ values r ≡ five (pair (questionOutcome a)) ⌝ }
+    ensures { λ r. ⌜ values r ≡ six (pair (questionOutcome a)) ⌝ }
 {
     match a {
-        QuestionAnswer::Answered { result, visits } => accepted(result as u64, visits as u64, 0),
+        QuestionAnswer::Answered { result, visits } => accepted(result as u64, visits as u64, 0, 0),
         QuestionAnswer::Refused(r) => refused(r),
     }
 }

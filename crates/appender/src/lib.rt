@@ -1,23 +1,14 @@
-// Appending a number to an encoding of order 2 to 6.
-ghost use Prim.Native.Nat.{_*_, _≤_};
-ghost use Rattle.calls.specs.Limits.{Order, maxBytes};
+// Appending a number to an encoding of order 2 to 6, by its header.
 ghost use Rattle.appender.specs.Appending.{AppendPromise};
-ghost use Rattle.appender.specs.Leaves.{PlansFor, Plans};
+ghost use Rattle.appender.specs.Leaves.{Plans};
 use calls::Refusal;
-use decoder::SpanAnswer;
+use headers::EncodingAnswer;
+use headers::Header;
 
-pub enum AppendAnswer {
-    // The bytes now in use, and how many numbers they hold.
-    Appended { bytes: usize, count: usize },
-    Refused(Refusal),
-}
-
-// What is to be put into a buffer: a codeword after its first bits; and how many bytes are then in use, and how many numbers they hold.
+// What is to be put into a buffer, a codeword after the bits in use, and the header afterwards.
 struct Extension {
     word: codewords::Word,
-    bits: usize,
-    bytes: usize,
-    count: usize,
+    header: Header,
 }
 
 // All that is decided before the buffer may be touched.
@@ -26,64 +17,53 @@ enum Planned {
     Refused(Refusal),
 }
 
-// The plan for a number more after a row of so many numbers and bits, in a buffer with so much room. Requires: a legal order, and no more bits than
-// an encoding has, which `plan` shows.
-fn plan_after(order: usize, room: usize, count: usize, bits: usize, n: u64) -> Planned
-    requires { ⌜ Order order × (bits ≤ 8 * maxBytes) ⌝ }
-    ensures { λ r. ⌜ PlansFor order room count bits n r ⌝ }
-{
-    if !calls::is_number(n, calls::MAX_NUMBER) {
-        return Planned::Refused(Refusal::BadNumber(0));
-    }
-    if count >= calls::MAX_COUNT {
-        return Planned::Refused(Refusal::FullRow);
-    }
-    let positions = fibonacci::positions(order);
-    let firsts = fibonacci::first_numbers(order);
-    let low = codewords::low_digits(order);
-    let word = codewords::coded(&positions, &firsts, &low, order, n);
-    let bytes = (bits + word.len + 7) / 8;
-    if room < bytes {
-        return Planned::Refused(Refusal::NoRoom);
-    }
-    Planned::Put(Extension {
-        word,
-        bits,
-        bytes,
-        count: count + 1,
-    })
-}
-
-// The plan for a number more after the encoding in the first `used` bytes of a buffer.
-fn plan(order: usize, buf: &[u8], used: usize, n: u64) -> Planned
-    ensures { λ r. ⌜ Plans order (now (buf .entry)) used n r ⌝ }
+// The plan for a number more in a buffer of so many bytes.
+fn plan(order: usize, room: usize, header: Header, n: u64) -> Planned
+    ensures { λ r. ⌜ Plans order room header n r ⌝ }
 {
     if !calls::is_order(order) {
         return Planned::Refused(Refusal::BadOrder);
     }
-    if used > buf.len() {
-        return Planned::Refused(Refusal::PastBuffer);
+    if headers::is_bad(header, room) {
+        return Planned::Refused(Refusal::BadHeader);
     }
-    let scanned = decoder::sum_span(order, &buf[0..used], calls::MAX_NUMBER, 0, 0);
-    match scanned {
-        SpanAnswer::Refused(r) => Planned::Refused(r),
-        SpanAnswer::Row(f) => plan_after(order, buf.len(), f.count, f.bits, n),
+    if !calls::is_number(n, calls::MAX_NUMBER) {
+        return Planned::Refused(Refusal::BadNumber(0));
     }
+    if header.count >= calls::MAX_COUNT {
+        return Planned::Refused(Refusal::FullRow);
+    }
+    let word = codewords::codeword(order, n);
+    let bits = header.bits + word.len;
+    if bits > headers::capacity(room) {
+        return Planned::Refused(Refusal::NoRoom);
+    }
+    let longer = Header {
+        bits,
+        count: header.count + 1,
+        total: header.total + n,
+    };
+    Planned::Put(Extension {
+        word,
+        header: longer,
+    })
 }
 
-// Appends a number to the encoding in the first `used` bytes of a buffer: its codeword goes to the part from the byte with the first free bit on.
-pub fn append(order: usize, buf: &mut [u8], used: usize, n: u32) -> AppendAnswer
-    ensures { λ r. ⌜ AppendPromise order (now (buf .entry)) used n r (now (buf .exit)) ⌝ }
+// Appends a number after the bits in use: its codeword goes to the part of the buffer from the byte with the first free bit on. The encoding is not read.
+pub fn append(order: usize, buf: &mut [u8], header: Header, n: u32) -> EncodingAnswer
+    ensures { λ r. ⌜ AppendPromise order (now (buf .entry)) header n r (now (buf .exit)) ⌝ }
 {
-    let planned = plan(order, buf, used, calls::wide(n));
+    let planned = plan(order, buf.len(), header, calls::wide(n));
     match planned {
-        Planned::Refused(r) => AppendAnswer::Refused(r),
+        Planned::Refused(r) => EncodingAnswer::Refused(r),
         Planned::Put(x) => {
-            let k = x.bits / 8;
-            bit_writer::put_word(&mut buf[k..], x.bits % 8, x.word.bits, x.word.len);
-            AppendAnswer::Appended {
-                bytes: x.bytes,
-                count: x.count,
+            let at = header.bits;
+            let k = at / 8;
+            bit_writer::put_word(&mut buf[k..], at % 8, x.word.bits, x.word.len);
+            let longer = x.header;
+            EncodingAnswer::Encoded {
+                bytes: (longer.bits + 7) / 8,
+                header: longer,
             }
         }
     }

@@ -7,7 +7,7 @@ use Prim.Native.Nat.{ℕ, zero, suc, _+_, _-_, _*_, _%_, _^_, _≤_, _<_}
 use native.Mathlib.Omega.{arith}
 use native.Mathlib.Nat.{zero-add, suc-add, two-pow-succ, mod-eq-of-lt}
 use native.Mathlib.Decide.{decLe}
-use lib.ListN.{length, drop, replicate, replicate-append-replicate}
+use lib.ListN.{length, take, drop, replicate, replicate-append-replicate}
 use lib.Seq.{drop-nil, drop-at, getD-drop}
 use lib.Pow.{mod-pow-add}
 use Rattle.bits.specs.Bits.{wordBits, unpack, wordOf, bytesOf, byteCount, pack, padding, Bytes}
@@ -133,6 +133,12 @@ bytes-append (b ∷ s) t hs ht (suc i) = bytes-append s t (λ i. hs (suc i)) ht 
 
 pub bytes-drop : (n : ℕ) (s : List ℕ) → Bytes s → Bytes (drop n s)
 bytes-drop n s h i = rw (getD-drop n s i 0) (h (n + i))
+
+pub bytes-take : (n : ℕ) (s : List ℕ) → Bytes s → Bytes (take n s)
+bytes-take zero s h i = omega arith
+bytes-take (suc n) [] h i = h i
+bytes-take (suc n) (b ∷ s) h zero = h 0
+bytes-take (suc n) (b ∷ s) h (suc i) = bytes-take n s (λ i. h (suc i)) i
 
 bytes-bytes : (c : ℕ) (b : List Bool) → Bytes (bytesOf c b)
 unfolding bytesOf

@@ -12,8 +12,6 @@ pub enum Refusal {
     BadOrder,
     // 2: an encoding has more bytes than one can have.
     TooManyBytes,
-    // 2: more bytes are in use than the buffer has.
-    PastBuffer,
     // 3: the number at this place is 0, or above the limit of a row.
     BadNumber(usize),
     // 4: a row has more than 4,096 numbers.
@@ -24,7 +22,7 @@ pub enum Refusal {
     FullRow,
     // 4: the input of the listing program has more bytes than its lines can.
     TooMuchInput,
-    // 5: an output is too short.
+    // 5: an output is too short, or an encoding would have more bits than one can have.
     NoRoom,
     // 6: after the last codeword remain eight bits or more, or a one.
     BadRest,
@@ -54,6 +52,8 @@ pub enum Refusal {
     BadStoppers,
     // 17: the bytes end inside a codeword.
     Unfinished,
+    // 18: a header's bits are more than the buffer or an encoding can have, or its count or total more than a row can.
+    BadHeader,
 }
 
 // A refusal as the papers give it: its number, and a place, which is 0 where they name none.
@@ -74,7 +74,6 @@ pub fn reason(r: Refusal) -> Numbered
     match r {
         Refusal::BadOrder => with_place(1, 0),
         Refusal::TooManyBytes => with_place(2, 0),
-        Refusal::PastBuffer => with_place(2, 0),
         Refusal::BadNumber(place) => with_place(3, place),
         Refusal::TooManyNumbers => with_place(4, 0),
         Refusal::TooManyCodewords => with_place(4, 0),
@@ -95,17 +94,18 @@ pub fn reason(r: Refusal) -> Numbered
         Refusal::TooMuchShared => with_place(15, 0),
         Refusal::BadStoppers => with_place(16, 0),
         Refusal::Unfinished => with_place(17, 0),
+        Refusal::BadHeader => with_place(18, 0),
     }
 }
 
 // A refusal in words, by its number. Which is given when, papers 01 and 02 say; 13 is the listing program's alone.
-pub const REFUSALS: [u8; 627] = *b"\
+pub const REFUSALS: [u8; 710] = *b"\
 \n\
 the order is not 2 to 6\n\
-more bytes than an encoding can have, or more in use than the buffer has\n\
+more bytes than an encoding can have\n\
 a number is 0\n\
 more than 4096 numbers\n\
-the output is too short\n\
+the output is too short, or more than 192512 bits would be in use\n\
 8 bits or more, or a one, remain after the last codeword\n\
 a number is above 4294967295\n\
 the place, the span or the use is not in the row\n\
@@ -117,7 +117,8 @@ a line of the input has another form, or there is none\n\
 the repeats are not 1 to 10000\n\
 more is shared than the row's total\n\
 the stoppers are not 1 to 254\n\
-the bytes end inside a codeword\n";
+the bytes end inside a codeword\n\
+the header has more bits, numbers or total than the buffer or a row can have\n";
 
 // What a call answers whose one result is a count: of numbers, bits or bytes.
 pub enum CountAnswer {

@@ -1,6 +1,6 @@
--- A row, number by number: its check, the length of its bits, and the bits put into a buffer.
+-- A row, number by number: its bits, and these put into a buffer.
 use mathlib.Core.Path.{_≡_, refl, sym, ap, _∙_}
-use mathlib.Core.Bool.{Bool, true, false}
+use mathlib.Core.Bool.{Bool}
 use mathlib.Core.List.{List, [], _∷_, _++_, flatten}
 use Prim.Native.Nat.{ℕ, _+_, _*_, _≤_, _<_}
 use native.Mathlib.Omega.{arith}
@@ -13,10 +13,6 @@ use Rattle.bits.specs.Leaves.{putTo, putAt}
 use Rattle.bits.proofs.Put.{Filled, filled-none, filled-more, filled-end}
 use Rattle.fibonacci.specs.Code.{codeword}
 use Rattle.fibonacci.specs.Encoding.{rowBits}
-use Rattle.calls.specs.declared.Refusal.the-variants.{BadNumber}
-use Rattle.calls.specs.Calls.{accepted, refused}
-use Rattle.calls.specs.Limits.{isNumber, checkEach}
-use Rattle.calls.proofs.Checks.{each-more, each-fault}
 use Rattle.fibonacci.proofs.Rows.{bits-append, bits-snoc}
 
 -- ## The number n at place i
@@ -25,7 +21,7 @@ module _ (row : List ℕ) (i n : ℕ) (h : i < length row) (e : n ≡ getD row i
   left : drop i row ≡ n ∷ drop (i + 1) row
   left = drop-next row i 0 h e
 
-  bits-left : (m : ℕ) → rowBits m (drop i row) ≡ codeword m n ++ rowBits m (drop (i + 1) row)
+  pub bits-left : (m : ℕ) → rowBits m (drop i row) ≡ codeword m n ++ rowBits m (drop (i + 1) row)
   unfolding rowBits flatten
   bits-left m = rw left
 
@@ -37,40 +33,9 @@ module _ (row : List ℕ) (i n : ℕ) (h : i < length row) (e : n ≡ getD row i
 bits-split : (m i : ℕ) (row : List ℕ) → rowBits m row ≡ rowBits m (take i row) ++ rowBits m (drop i row)
 bits-split m i row = ap (rowBits m) (sym (take-append-drop i row)) ∙ bits-append m (take i row) (drop i row)
 
-bits-end : (m i : ℕ) (row : List ℕ) → length row ≤ i → rowBits m (drop i row) ≡ []
+pub bits-end : (m i : ℕ) (row : List ℕ) → length row ≤ i → rowBits m (drop i row) ≡ []
 unfolding rowBits flatten
 bits-end m i row h = rw (drop-of-length-le row {i = i} h)
-
--- ## Measuring
-
--- after i numbers: none of them is at fault, and their codewords have so many bits
-abbrev pub Counted : ℕ → ℕ → List ℕ → ℕ → ℕ → Type 0
-Counted m limit row i bits =
-    let total : ℕ = length (rowBits m row) in
-    (bits ≤ 47 * i) × (bits + length (rowBits m (drop i row)) ≡ total)
-    × (checkEach BadNumber limit 0 row (accepted total) ≡ checkEach BadNumber limit i (drop i row) (accepted total))
-
-pub counted-none : (m limit : ℕ) (row : List ℕ) → Counted m limit row 0 0
-counted-none m limit row = (omega arith, omega arith, refl)
-
-module _ (m limit : ℕ) (row : List ℕ) (i bits : ℕ) (c : Counted m limit row i bits) where
-  pub counted-more : (n len : ℕ) → i < length row → n ≡ getD row i 0 → isNumber limit n ≡ true → len ≡ length (codeword m n) → len ≤ 47
-      → Counted m limit row (i + 1) (bits + len)
-  counted-more n len h e q is few = (
-    omega (arith, c .0),
-    omega (arith, c .1, ap length (bits-left row i n h e m), length-append (codeword m n) (rowBits m (drop (i + 1) row))),
-    c .2 ∙ each-more BadNumber limit row i n h e (accepted (length (rowBits m row))) q,
-  )
-
-  pub counted-fault : (n : ℕ) → i < length row → n ≡ getD row i 0 → isNumber limit n ≡ false
-      → refused (BadNumber i) ≡ checkEach BadNumber limit 0 row (accepted (length (rowBits m row)))
-  counted-fault n h e q = sym (c .2 ∙ each-fault BadNumber limit row i n h e (accepted (length (rowBits m row))) q)
-
-  pub counted-end : length row ≤ i → accepted bits ≡ checkEach BadNumber limit 0 row (accepted (length (rowBits m row)))
-  unfolding checkEach
-  counted-end h =
-      let b : length (rowBits m row) ≡ bits = omega (arith, c .1, ap length (bits-end m i row h)) in
-      sym (c .2 ∙ rw (drop-of-length-le row {i = i} h) (ap accepted b))
 
 -- ## Putting
 

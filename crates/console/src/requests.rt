@@ -2,13 +2,14 @@
 use crate::texts;
 use answers::Answer;
 use calls::wide;
+use headers::Header;
 
 // How many decimal numbers follow the name.
 pub fn numbers_of(k: usize) -> usize {
     if k == texts::TABLE_READ || k == texts::TABLE_READ_BYTES || k == texts::HELP_ITSELF {
         return 0;
     }
-    if k == texts::APPEND || k == texts::BUILD || k == texts::TABLE_VALUE {
+    if k == texts::BUILD || k == texts::TABLE_VALUE {
         return 2;
     }
     if k == texts::TOTAL || k == texts::REPEATED_TOTAL {
@@ -17,7 +18,7 @@ pub fn numbers_of(k: usize) -> usize {
     if k == texts::EXTRACT {
         return 4;
     }
-    if k == texts::RANK || k == texts::SELECT {
+    if k == texts::APPEND || k == texts::RANK || k == texts::SELECT {
         5
     } else {
         1
@@ -74,7 +75,7 @@ fn narrow(n: u64) -> u32 {
 // ## Operations
 
 pub fn write(order: u64, row: &[u32], out: &mut [u8]) -> Answer {
-    answers::of_write(encoder::write(order as usize, row, out))
+    answers::of_encoding(encoder::write(order as usize, row, out))
 }
 
 fn dense_write(stoppers: u64, row: &[u32], out: &mut [u8]) -> Answer {
@@ -85,18 +86,16 @@ fn build(n: &[u64; 5], row: &[u32], out: &mut [u8]) -> Answer {
     answers::of_count(wavelet_build::build(n[0] as usize, narrow(n[1]), row, out))
 }
 
-fn append(n: &[u64; 5], used: usize, out: &mut [u8]) -> Answer {
-    answers::of_append(appender::append(n[0] as usize, out, used, narrow(n[1])))
+fn append(n: &[u64; 5], out: &mut [u8]) -> Answer {
+    let header = Header {
+        bits: n[2] as usize,
+        count: n[3] as usize,
+        total: n[4],
+    };
+    answers::of_encoding(appender::append(n[0] as usize, out, header, narrow(n[1])))
 }
 
-pub fn into_bytes(
-    k: usize,
-    n: &[u64; 5],
-    row: &[u32],
-    s: &[u8],
-    used: usize,
-    out: &mut [u8],
-) -> Answer {
+pub fn into_bytes(k: usize, n: &[u64; 5], row: &[u32], s: &[u8], out: &mut [u8]) -> Answer {
     if k == texts::WRITE {
         return write(n[0], row, out);
     }
@@ -107,7 +106,7 @@ pub fn into_bytes(
         return build(n, row, out);
     }
     if k == texts::APPEND {
-        return append(n, used, out);
+        return append(n, out);
     }
     answers::of_count(table_decoder::read_bytes(s, out))
 }
@@ -128,6 +127,10 @@ pub fn into_row(k: usize, n: &[u64; 5], s: &[u8], out: &mut [u32]) -> Answer {
         return dense_read(n[0], s, out);
     }
     answers::of_count(table_decoder::read(s, out))
+}
+
+fn header(order: u64, s: &[u8]) -> Answer {
+    answers::of_header(header_reader::read(order as usize, s))
 }
 
 fn total(n: &[u64; 5], s: &[u8]) -> Answer {
@@ -172,6 +175,9 @@ fn select(n: &[u64; 5], s: &[u8]) -> Answer {
 
 // What only reads.
 pub fn ask(k: usize, n: &[u64; 5], s: &[u8]) -> Answer {
+    if k == texts::HEADER {
+        return header(n[0], s);
+    }
     if k == texts::TOTAL {
         return total(n, s);
     }

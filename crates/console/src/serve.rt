@@ -17,19 +17,16 @@ const MAX_NUMBERS: usize = 4100;
 // An appended codeword has at most 47 bits.
 const APPENDED: usize = 6;
 
-// How much room an output has: enough for every answer; exactly so much; or, of a buffer as long as its bytes, so many bytes in use.
+// How much room an output has: enough for every answer, or exactly so much.
 enum Room {
     Enough,
     Exactly(u64),
-    Used(u64),
 }
 
-// A request: its line in the help; how many elements its output has, and of an append's buffer how many bytes are in use; whether its room was named, so that
-// the whole output is shown.
+// A request: its line in the help; how many elements its output has; whether its room was named, so that the whole output is shown.
 struct Request {
     k: usize,
     size: usize,
-    used: usize,
     whole: bool,
 }
 
@@ -63,7 +60,7 @@ fn answered(out: &mut [u8], k: usize, a: Answer) -> usize {
     if a.number != 0 {
         return refusal(out, a);
     }
-    let list = [a.first, a.second, a.third];
+    let list = [a.first, a.second, a.third, a.fourth];
     texts::results(out, k, &list)
 }
 
@@ -121,7 +118,7 @@ fn bytes_in(
     s: &[u8],
     buf: &mut [u8],
 ) -> usize {
-    let a = requests::into_bytes(r.k, n, row, s, r.used, buf);
+    let a = requests::into_bytes(r.k, n, row, s, buf);
     let at = answered(out, r.k, a);
     let at = shown(
         out,
@@ -268,19 +265,11 @@ fn request_of(k: usize, room: Room, len: usize) -> Request {
         Room::Enough => Request {
             k,
             size: enough(k, len),
-            used: len,
             whole: false,
         },
         Room::Exactly(n) => Request {
             k,
             size: exactly(k, n),
-            used: len,
-            whole: true,
-        },
-        Room::Used(n) => Request {
-            k,
-            size: if k == texts::APPEND { len } else { usize::MAX },
-            used: n as usize,
             whole: true,
         },
     }
@@ -371,21 +360,13 @@ fn after(out: &mut [u8], room: Room, line: &[u8], at: usize) -> usize {
     expected(out, k)
 }
 
-fn room_of(k: usize, n: u64) -> Room {
-    if k == texts::USED {
-        Room::Used(n)
-    } else {
-        Room::Exactly(n)
-    }
-}
-
-// A number, and then a request, behind `room` or `used`.
-fn with_room(out: &mut [u8], k: usize, line: &[u8], at: usize) -> usize {
+// A number, and then a request, behind `room`.
+fn with_room(out: &mut [u8], line: &[u8], at: usize) -> usize {
     let mut n = [0u64; 1];
     let Meaning::Count(at) = words::arguments(line, at, &mut n) else {
-        return expected(out, k);
+        return expected(out, texts::ROOM);
     };
-    after(out, room_of(k, n[0]), line, at)
+    after(out, Room::Exactly(n[0]), line, at)
 }
 
 // The answer without its last line feed; nothing for a line without words, and for a comment.
@@ -399,9 +380,8 @@ fn answer(out: &mut [u8], line: &[u8]) -> usize {
     if line[from] == b'#' {
         return 0;
     }
-    let k = texts::prefix_of(&line[from..to]);
-    if k > 0 {
-        return with_room(out, k, line, to);
+    if texts::is_room(&line[from..to]) {
+        return with_room(out, line, to);
     }
     after(out, Room::Enough, line, from)
 }

@@ -5,7 +5,7 @@ ghost use lib.ListN.{length};
 use crate::say;
 use crate::words;
 
-pub const HELP: [u8; 2262] = *b"\
+pub const HELP: [u8; 2331] = *b"\
 A request is a line:\n\
 \x20   codewords ORDER ROW                             codewords 2 3 1 4 2 1\n\
 \x20   write ORDER ROW                                 write 2 3 1 4 2 1\n\
@@ -14,7 +14,8 @@ A request is a line:\n\
 \x20   table-read-bytes BYTES                          table-read-bytes 6D B8\n\
 \x20   dense-write STOPPERS ROW                        dense-write 128 129 16512\n\
 \x20   dense-read STOPPERS BYTES                       dense-read 128 80 00 FF 7F\n\
-\x20   append ORDER NUMBER BYTES                       append 2 600 3E DE\n\
+\x20   header ORDER BYTES                              header 2 3E DE\n\
+\x20   append ORDER NUMBER BITS COUNT TOTAL BYTES      append 2 600 15 5 11 3E DE\n\
 \x20   total ORDER FROM TO BYTES                       total 2 0 5 3E DE\n\
 \x20   repeated-total ORDER REPEATS SHARED BYTES       repeated-total 3 11 20 6D B8\n\
 \x20   build ORDER ALPHABET ROW                        build 2 4 3 1 4 2 1\n\
@@ -27,26 +28,27 @@ A request is a line:\n\
 \x20   table-value ONES LENGTH BYTE                    table-value 1 4 B7\n\
 \x20   help                                            help\n\
 \x20   room N REQUEST                                  room 3 write 2 3 1 4 2 1\n\
-\x20   used N append ORDER NUMBER BYTES                used 1 append 2 4 FC FF FF\n\
 ROW: numbers; 1x4096 is 4096 ones. BYTES, INDEX: two hexadecimal digits each; FFx1024 is 1024 times FF.\n\
 ORDER: 2 to 6. ALPHABET: the largest number of an index. FROM, TO, PLACE: from 0; USE: from 1.\n\
+BITS COUNT TOTAL: the header of BYTES: bits in use, how many numbers they hold, and their total.\n\
 STOPPERS: how many byte values, from 0 up, end a codeword of the dense code, 1 to 254.\n\
 REPEATS: 1 to 10000. SHARED: what each repeat has in common with the next, 0 up to the row's total.\n\
 table-..: by the table for order 3. TEXT: input of the listing program; $ is a line feed, ^ a carriage return, ~ a tab.\n\
-room N: the output of a request that writes has N elements, and all are shown. used N: the buffer is BYTES, of which N are in use.\n\
+room N: the output of a request that writes has N elements, and all are shown; append's begins with BYTES.\n\
 NO n: a refusal, with its number. A line that begins with # is passed over.\n";
 
 // What a request is answered, line by line as in the help: the results, each a `#`; what was written; and, where its room was named, the whole output.
-pub const ANSWERS: [u8; 408] = *b"\
+pub const ANSWERS: [u8; 468] = *b"\
 \n\
 \n\
-bytes #, bits #  ; encoding  ; output\n\
+bytes #, bits #, count #, total #  ; encoding  ; output\n\
 count #  ; row  ; output\n\
 count #  ; row  ; output\n\
 count #  ; bytes  ; output\n\
 bytes #  ; encoding  ; output\n\
 count #  ; row  ; output\n\
-bytes #, count #  ; encoding  ; buffer\n\
+bits #, count #, total #\n\
+bytes #, bits #, count #, total #  ; encoding  ; buffer\n\
 total #\n\
 total #\n\
 bits #  ; index  ; output\n\
@@ -74,33 +76,33 @@ pub const DENSE_WRITE: usize = 6;
 
 pub const DENSE_READ: usize = 7;
 
-pub const APPEND: usize = 8;
+pub const HEADER: usize = 8;
 
-pub const TOTAL: usize = 9;
+pub const APPEND: usize = 9;
 
-pub const REPEATED_TOTAL: usize = 10;
+pub const TOTAL: usize = 10;
 
-pub const BUILD: usize = 11;
+pub const REPEATED_TOTAL: usize = 11;
 
-pub const EXTRACT: usize = 12;
+pub const BUILD: usize = 12;
 
-pub const RANK: usize = 13;
+pub const EXTRACT: usize = 13;
 
-pub const SELECT: usize = 14;
+pub const RANK: usize = 14;
 
-pub const LISTING: usize = 15;
+pub const SELECT: usize = 15;
 
-pub const LISTING_TEXT: usize = 16;
+pub const LISTING: usize = 16;
 
-pub const TABLE_ROW: usize = 17;
+pub const LISTING_TEXT: usize = 17;
 
-pub const TABLE_VALUE: usize = 18;
+pub const TABLE_ROW: usize = 18;
 
-pub const HELP_ITSELF: usize = 19;
+pub const TABLE_VALUE: usize = 19;
 
-pub const ROOM: usize = 20;
+pub const HELP_ITSELF: usize = 20;
 
-pub const USED: usize = 21;
+pub const ROOM: usize = 21;
 
 // Where line k of a table begins, from 0; its length where there is no such line.
 fn start(table: &[u8], k: usize) -> usize {
@@ -208,6 +210,6 @@ pub fn request_of(name: &[u8]) -> usize {
     named(name, CODEWORDS, ROOM)
 }
 
-pub fn prefix_of(name: &[u8]) -> usize {
-    named(name, ROOM, USED + 1)
+pub fn is_room(name: &[u8]) -> bool {
+    named(name, ROOM, ROOM + 1) != 0
 }

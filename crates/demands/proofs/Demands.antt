@@ -5,6 +5,7 @@ use Rattle.demands.proofs.Codes.{demand-3}
 use Rattle.demands.proofs.RoundTrip.{round-trip}
 use Rattle.demands.proofs.Readers.{two-readers}
 use Rattle.demands.proofs.Totals.{totals-demand}
+use Rattle.demands.proofs.Headers.{header-demand, header-examples}
 use Rattle.demands.proofs.Dense.{dense-demand}
 use Rattle.demands.proofs.Index.{index-demand, built-answers}
 use Rattle.demands.proofs.Listing.{listing-demand}
@@ -17,6 +18,8 @@ demands-hold =
       codes = demand-3;
       readers = two-readers;
       round-trip = round-trip;
+      headers = header-demand;
+      header-examples = header-examples;
       totals = totals-demand;
       index = index-demand;
       built = built-answers;

@@ -2,6 +2,8 @@ pub mod Codes
 pub mod RoundTrip
 pub mod Readers
 pub mod Totals
+pub mod Truth
+pub mod Headers
 pub mod Dense
 pub mod Index
 pub mod Listing

@@ -22,6 +22,8 @@ use Rattle.fibonacci.specs.Code.{codeword}
 use Rattle.fibonacci.specs.Encoding.{rowBits, encoding}
 use Rattle.fibonacci.proofs.Rows.{bits-few}
 use Rattle.fibonacci.proofs.Lookup.{codeword-short}
+use Rattle.headers.specs.declared.Header.{Header}
+use Rattle.headers.specs.Headers.{headerOf}
 use Rattle.encoder.specs.Writing.{write}
 use Rattle.encoder.proofs.Writing.{write-is}
 use Rattle.listing_input.specs.Input.{maxInputBytes, fields, isInput}
@@ -62,8 +64,8 @@ written-refused : (m : ℕ) (row : List ℕ) (q : Refusal) → length row ≤ ma
 unfolding write encoding
 written-refused m row q few e = ⊎-elim inl order (check-refused BadOrder (not (isOrder m)) _ q e)
   where
-    end : Outcome (ℕ × ℕ)
-    end = check NoRoom (ltb maxBytes (length (encoding m row))) (accepted (length (encoding m row), length (rowBits m row)))
+    end : Outcome (ℕ × Header)
+    end = check NoRoom (ltb maxBytes (length (encoding m row))) (accepted (length (encoding m row), headerOf m row))
 
     room : isOrder m ≡ true → Legal maxNumber row → length (encoding m row) ≤ maxBytes
     room o a = omega (arith, pack-length (rowBits m row), bits-few m row (order-is m o) a)
@@ -124,9 +126,9 @@ lines-whole m place total (n ∷ row) o a p t =
       lines-whole m (suc place) (total + n) row o (a .1) (omega arith) (omega (arith, l .1)),
     )
 
-nothing-cut : (m : ℕ) (row : List ℕ) (bytes bits : ℕ) → write m row maxBytes ≡ accepted (bytes, bits) → WholeLines m 0 0 row × Whole 11 bytes
-nothing-cut m row bytes bits e =
-    let w = write-is m row maxBytes bytes bits e in
+nothing-cut : (m : ℕ) (row : List ℕ) (bytes : ℕ) (h : Header) → write m row maxBytes ≡ accepted (bytes, h) → WholeLines m 0 0 row × Whole 11 bytes
+nothing-cut m row bytes h e =
+    let w = write-is m row maxBytes bytes h e in
     (lines-whole m 0 0 row (order-is m (w .0 .asked)) (w .0 .legal) (omega (arith, w .0 .count)) (omega arith), column-number 11 bytes (omega (arith, w .0 .fits, w .1)))
 
 pub listing-demand : ListingDemand

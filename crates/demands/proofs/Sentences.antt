@@ -1,14 +1,15 @@
 -- The sentences under the table of examples.
-use mathlib.Core.Path.{_≡_, refl, sym, ap, ap₂, _∙_}
-use mathlib.Core.Bool.{true}
+use mathlib.Core.Path.{_≡_, refl, ap, ap₂, _∙_}
+use mathlib.Core.Bool.{true, false}
 use mathlib.Core.List.{List, [], _∷_, _++_, flatten}
 use Prim.Native.Nat.{ℕ, zero, suc, _*_, _≤_}
 use native.Mathlib.Omega.{arith}
 use native.Mathlib.Nat.{suc-mul}
-use lib.ListN.{length, take, length-append, length-replicate}
-use lib.Seq.{take-append-seam}
+use lib.ListN.{length, length-append, length-replicate}
 use borrow.Author.Tests.{lt-ltb}
+use Rattle.lists.specs.Lists.{sum}
 use Rattle.lists.proofs.Each.{all-same}
+use Rattle.lists.proofs.Sums.{sum-same}
 use Rattle.bits.specs.Bits.{bitOf, wordBits, unpack, wordOf, bytesOf, byteCount, pack, count}
 use Rattle.bits.proofs.Packing.{pack-length}
 use Rattle.fibonacci.specs.Code.{past, F, value, first, number, size, digits, codeword}
@@ -22,11 +23,13 @@ use Rattle.fibonacci.proofs.Rows.{encoding-read}
 use Rattle.fibonacci.proofs.Lookup.{codeword-short}
 use Rattle.reading.specs.Reading.{fibonacci, read, readInto}
 use Rattle.calls.proofs.Decoding.{decode-contents, contents-many}
+use Rattle.headers.specs.declared.Header.{Header}
+use Rattle.headers.specs.Headers.{header, headerOf, capacity, isBadHeader}
+use Rattle.headers.proofs.Headers.{capacity-least, is-good}
 use Rattle.encoder.specs.Writing.{write}
 use Rattle.encoder.proofs.Writing.{write-accepts}
 use Rattle.appender.specs.Appending.{append}
-use Rattle.appender.proofs.Appending.{extend-full, append-read}
-use Rattle.demands.proofs.RoundTrip.{decode-encoding}
+use Rattle.appender.proofs.Appending.{append-full}
 use Rattle.demands.specs.Pencil.{answer}
 use Rattle.demands.specs.Sentences.{onesRow, Largest, Sentences}
 
@@ -61,11 +64,16 @@ module _ (m : ℕ) (o : Order m) where
   full-bytes : length (encoding m (onesRow maxCount)) ≡ 512 * m
   full-bytes = omega (arith, ones-bytes m maxCount)
 
-  full : (room : ℕ) → 512 * m ≤ room → write m (onesRow maxCount) room ≡ accepted (512 * m, 4096 * m)
+  full-header : headerOf m (onesRow maxCount) ≡ header (4096 * m) 4096 4096
+  unfolding onesRow
+  full-header =
+      ap₂ (λ (b k : ℕ). header b k (sum (onesRow maxCount))) (ones-bits m maxCount) (ones-length maxCount) ∙ ap (header (4096 * m) 4096) (sum-same maxCount 1)
+
+  full : (room : ℕ) → 512 * m ≤ room → write m (onesRow maxCount) room ≡ accepted (512 * m, header (4096 * m) 4096 4096)
   full room h =
       write-accepts m (onesRow maxCount) room
       (record { asked = is-order m o; count = omega (arith, ones-length maxCount); legal = ones-legal maxCount; fits = omega (arith, full-bytes) })
-      ∙ ap₂ (λ (k n : ℕ). accepted (k, n)) full-bytes (ones-bits m maxCount)
+      ∙ ap₂ (λ (k : ℕ) (h : Header). accepted (k, h)) full-bytes full-header
 
   written : (room : ℕ) → write m (onesRow (suc maxCount)) room ≡ refused TooManyNumbers
   unfolding write
@@ -82,15 +90,13 @@ module _ (m : ℕ) (o : Order m) where
   unfolding read
   read-back room = rw (is-order m o, decoded)
 
-  appended : (after : List ℕ) → append m (encoding m (onesRow maxCount) ++ after) (512 * m) 1 ≡ refused FullRow
+  appended : (room : ℕ) → 512 * m ≤ room → append m room (headerOf m (onesRow maxCount)) 1 ≡ refused FullRow
   unfolding isNumber
-  appended after =
-      let s : List ℕ = encoding m (onesRow maxCount) in
-      let front : take (512 * m) (s ++ after) ≡ s = ap (λ (k : ℕ). take k (s ++ after)) (sym full-bytes) ∙ take-append-seam s after in
-      let found : decode (fibonacci m) maxNumber (take (512 * m) (s ++ after)) ≡ accepted (onesRow maxCount) =
-      ap (decode (fibonacci m) maxNumber) front ∙ decode-encoding m (onesRow maxCount) o (omega (arith, ones-length maxCount)) (ones-legal maxCount) in
-      append-read m (s ++ after) (512 * m) 1 (is-order m o) (omega (arith, length-append s after, full-bytes)) (onesRow maxCount) found
-      ∙ extend-full m (length (s ++ after)) (onesRow maxCount) 1 refl (omega (arith, ones-length maxCount))
+  appended room h =
+      let bits : 4096 * m ≤ capacity room = capacity-least room (4096 * m) (omega arith) (omega (arith, o)) in
+      let good : isBadHeader room (header (4096 * m) 4096 4096) ≡ false =
+      is-good room (header (4096 * m) 4096 4096) (record { bits = bits; count = omega arith; total = omega arith }) in
+      ap (λ (h : Header). append m room h 1) full-header ∙ append-full m room (header (4096 * m) 4096 4096) 1 (is-order m o) good refl (omega arith)
 
 -- ## The largest number
 

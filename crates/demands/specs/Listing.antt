@@ -13,6 +13,7 @@ use Rattle.calls.specs.Refusals.{reason}
 use Rattle.calls.specs.Calls.{accepted, refused}
 use Rattle.calls.specs.Limits.{maxBytes}
 use Rattle.fibonacci.specs.Code.{codeword}
+use Rattle.headers.specs.declared.Header.{Header}
 use Rattle.encoder.specs.Writing.{write}
 use Rattle.listing_input.specs.Input.{inputOf, fields, isInput}
 use Rattle.listing_text.specs.Listing.{refusalLine, listing, text, put, putInto, maxTextBytes}
@@ -41,4 +42,4 @@ pub record ListingDemand : Type 0 where
   pub first-bytes : (s : List ℕ) → text (take 45068 s) ≡ text s
   -- 5. No text passes the program's buffer, and no column of a listing cuts a digit off
   pub text-fits : (s : List ℕ) → length (text s) ≤ maxTextBytes
-  pub nothing-cut : (m : ℕ) (row : List ℕ) (bytes bits : ℕ) → write m row maxBytes ≡ accepted (bytes, bits) → WholeLines m 0 0 row × Whole 11 bytes
+  pub nothing-cut : (m : ℕ) (row : List ℕ) (bytes : ℕ) (h : Header) → write m row maxBytes ≡ accepted (bytes, h) → WholeLines m 0 0 row × Whole 11 bytes

@@ -8,6 +8,7 @@ use Rattle.lists.specs.Lists.{valuesFrom}
 use Rattle.bits.specs.Bits.{bitValue}
 use Rattle.fibonacci.specs.Code.{value, first, number, codeword}
 use Rattle.calls.specs.Calls.{Outcome, accepted, answerNumber, answerPlace, answerResults, andThen}
+use Rattle.headers.specs.declared.Header.{Header}
 use Rattle.reading.specs.Reading.{read, readInto}
 use Rattle.totals.specs.Totals.{total}
 use Rattle.encoder.specs.Writing.{write, writeInto}
@@ -42,12 +43,16 @@ one o = andThen o (λ x. accepted (x ∷ []))
 abbrev pub two : Outcome (ℕ × ℕ) → Outcome (List ℕ)
 two o = andThen o (λ x. accepted (x .0 ∷ x .1 ∷ []))
 
+-- Of bytes and a header these are the bytes, the bits, the count and the total
+abbrev pub four : Outcome (ℕ × Header) → Outcome (List ℕ)
+four o = andThen o (λ x. accepted (x .0 ∷ x .1 .bits ∷ x .1 .count ∷ x .1 .total ∷ []))
+
 -- What the definitions give. Of a codeword these are its bits; of the number of a codeword the first number, the relative number and their sum; of bitmaps the
 -- joined ones, or that of node k in their order
 unfoldable pub answer : Example → Answer
 answer (Codeword m n) = answers (accepted (map bitValue (codeword m n))) []
 answer (Number m w) = answers (accepted (first m (length w - m) ∷ value m 1 (take (length w - m) w) ∷ number m w ∷ [])) []
-answer (Write m row room) = answers (two (write m row room)) (writeInto m row (replicate room 0))
+answer (Write m row room) = answers (four (write m row room)) (writeInto m row (replicate room 0))
 answer (Read m s room) = answers (one (read m s room)) (readInto m s (replicate room 0))
 answer (Total m s a b) = answers (one (total m s a b)) []
 answer (Bitmaps m N row) = answers (accepted (map bitValue (bitmaps m N row))) []
@@ -78,18 +83,18 @@ sixHundred = false ∷ true ∷ true ∷ false ∷ true ∷ true ∷ false ∷ t
 abbrev pub pencil : List Line
 pencil =
     -- P1 order 2, empty row: no bytes, total 0
-    line (Write 2 [] 0) 0 (0 ∷ 0 ∷ []) [] ∷
+    line (Write 2 [] 0) 0 (0 ∷ 0 ∷ 0 ∷ 0 ∷ []) [] ∷
     line (Total 2 [] 0 0) 0 (0 ∷ []) [] ∷
     -- P2 order 2, row 3, 1, 4, 2, 1: bytes 3E DE, 15 bits
-    line (Write 2 row 2) 0 (2 ∷ 15 ∷ []) (0x3e ∷ 0xde ∷ []) ∷
+    line (Write 2 row 2) 0 (2 ∷ 15 ∷ 5 ∷ 11 ∷ []) (0x3e ∷ 0xde ∷ []) ∷
     -- P3 order 3, row 600: 0110110110111, bytes 6D B8 (relative 273, first number 327)
     line (Codeword 3 600) 0 (map bitValue sixHundred) [] ∷
     line (Number 3 sixHundred) 0 (327 ∷ 273 ∷ 600 ∷ []) [] ∷
-    line (Write 3 (600 ∷ []) 2) 0 (2 ∷ 13 ∷ []) (0x6d ∷ 0xb8 ∷ []) ∷
+    line (Write 3 (600 ∷ []) 2) 0 (2 ∷ 13 ∷ 1 ∷ 600 ∷ []) (0x6d ∷ 0xb8 ∷ []) ∷
     -- P4 order 3, row 1: byte E0
-    line (Write 3 (1 ∷ []) 1) 0 (1 ∷ 3 ∷ []) (0xe0 ∷ []) ∷
+    line (Write 3 (1 ∷ []) 1) 0 (1 ∷ 3 ∷ 1 ∷ 1 ∷ []) (0xe0 ∷ []) ∷
     -- P5 order 6, row 2: byte 7E
-    line (Write 6 (2 ∷ []) 1) 0 (1 ∷ 7 ∷ []) (0x7e ∷ []) ∷
+    line (Write 6 (2 ∷ []) 1) 0 (1 ∷ 7 ∷ 1 ∷ 2 ∷ []) (0x7e ∷ []) ∷
     -- P6 order 2, byte FF: row 1, 1, 1, 1
     line (Read 2 (0xff ∷ []) 4) 0 (4 ∷ []) (1 ∷ 1 ∷ 1 ∷ 1 ∷ []) ∷
     -- P7 order 2, byte 00: refusal 6

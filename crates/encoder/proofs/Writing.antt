@@ -1,5 +1,5 @@
 -- What writing answers and leaves behind, check by check.
-use mathlib.Core.Path.{_≡_, sym, ap, ap₂, _∙_}
+use mathlib.Core.Path.{_≡_, sym, ap, _∙_}
 use mathlib.Core.Bool.{true, false}
 use mathlib.Core.List.{List}
 use Prim.Native.Nat.{ℕ, _*_, _≤_, _<_}
@@ -16,29 +16,32 @@ use Rattle.calls.specs.declared.Refusal.the-variants.{BadOrder, BadNumber, TooM
 use Rattle.calls.specs.Calls.{Outcome, accepted, refused, buffer}
 use Rattle.calls.specs.Limits.{isOrder, Legal, maxNumber, maxCount, checkEach}
 use Rattle.calls.proofs.Checks.{order-is, accepted-one, each-accepted}
+use Rattle.headers.specs.declared.Header.{Header}
+use Rattle.headers.specs.Headers.{headerOf}
 use Rattle.calls.proofs.Writing.{Write, Writable, written-is, written-accepts, written-asked, written-count, written-number, written-room}
 use Rattle.codeword_writer.specs.Leaves.{Fits}
 use Rattle.encoder.specs.Writing.{write, writeInto}
 
-bytes-are : (m : ℕ) (row : List ℕ) → length (encoding m row) ≡ byteCount (length (rowBits m row))
+-- the bytes of a row's encoding, by its bits
+pub bytes-are : (m : ℕ) (row : List ℕ) → length (encoding m row) ≡ byteCount (length (rowBits m row))
 unfolding encoding
 bytes-are m row = pack-length (rowBits m row)
 
-abbrev pub writing : ℕ → List ℕ → Write (ℕ × ℕ)
+abbrev pub writing : ℕ → List ℕ → Write (ℕ × Header)
 writing m row =
-    record { good = isOrder m; fault = BadOrder; limit = maxNumber; row = row; encoding = encoding m row; answer = (length (encoding m row), length (rowBits m row)) }
+    record { good = isOrder m; fault = BadOrder; limit = maxNumber; row = row; encoding = encoding m row; answer = (length (encoding m row), headerOf m row) }
 
 -- ## What is accepted
 
-pub write-is : (m : ℕ) (row : List ℕ) (room bytes bits : ℕ) → write m row room ≡ accepted (bytes, bits)
-    → Writable (writing m row) room × (bytes ≡ length (encoding m row)) × (bits ≡ length (rowBits m row))
+pub write-is : (m : ℕ) (row : List ℕ) (room bytes : ℕ) (h : Header) → write m row room ≡ accepted (bytes, h)
+    → Writable (writing m row) room × (bytes ≡ length (encoding m row)) × (h ≡ headerOf m row)
 unfolding write
-write-is m row room bytes bits e =
-    let x = written-is (writing m row) room (bytes, bits) e in
-    (x .0, ap (λ (p : ℕ × ℕ). p .0) (x .1), ap (λ (p : ℕ × ℕ). p .1) (x .1))
+write-is m row room bytes h e =
+    let x = written-is (writing m row) room (bytes, h) e in
+    (x .0, ap (λ (p : ℕ × Header). p .0) (x .1), ap (λ (p : ℕ × Header). p .1) (x .1))
 
 pub write-accepts : (m : ℕ) (row : List ℕ) (room : ℕ) → Writable (writing m row) room
-    → write m row room ≡ accepted (length (encoding m row), length (rowBits m row))
+    → write m row room ≡ accepted (length (encoding m row), headerOf m row)
 unfolding write
 write-accepts m row room w = written-accepts (writing m row) room w
 
@@ -50,36 +53,39 @@ module _ (m : ℕ) (row : List ℕ) (room : ℕ) (o : isOrder m ≡ true) where
   write-count h = written-count (writing m row) room o h
 
   module _ (l : length row ≤ maxCount) where
-    pub write-number : (bits : ℕ) (r : Refusal) → refused r ≡ checkEach BadNumber maxNumber 0 row (accepted bits) → refused r ≡ write m row room
+    pub write-number : (h : Header) (r : Refusal) → refused r ≡ checkEach BadNumber maxNumber 0 row (accepted h) → refused r ≡ write m row room
     unfolding write
-    write-number bits r e = written-number (writing m row) room o l bits r e
+    write-number h r e = written-number (writing m row) room o l h r e
 
-    -- the row has so many bits
-    module _ (bits : ℕ) (e : accepted bits ≡ checkEach BadNumber maxNumber 0 row (accepted (length (rowBits m row)))) where
-      measured : Legal maxNumber row × (length (rowBits m row) ≡ bits)
-      measured = let x = each-accepted BadNumber maxNumber 0 row _ bits (sym e) in (x .0, accepted-one (x .1))
+    -- the row has this header
+    module _ (h : Header) (e : accepted h ≡ checkEach BadNumber maxNumber 0 row (accepted (headerOf m row))) where
+      measured : Legal maxNumber row × (headerOf m row ≡ h)
+      measured = let x = each-accepted BadNumber maxNumber 0 row _ h (sym e) in (x .0, accepted-one (x .1))
 
-      bytes : length (encoding m row) ≡ byteCount bits
-      bytes = bytes-are m row ∙ ap byteCount (measured .1)
+      bytes : length (encoding m row) ≡ byteCount (h .bits)
+      bytes = bytes-are m row ∙ ap (λ (h : Header). byteCount (h .bits)) (measured .1)
 
-      pub bits-most : bits ≤ 47 * maxCount
-      bits-most = omega (arith, measured .1, bits-few m row (order-is m o) (measured .0))
+      pub bits-most : h .bits ≤ 47 * maxCount
+      bits-most = omega (arith, ap (λ (h : Header). h .bits) (measured .1), bits-few m row (order-is m o) (measured .0))
 
-      pub write-room : room < byteCount bits → refused NoRoom ≡ write m row room
+      pub write-room : room < byteCount (h .bits) → refused NoRoom ≡ write m row room
       unfolding write
-      write-room h = written-room (writing m row) room o l (measured .0) (omega (arith, bytes))
+      write-room less = written-room (writing m row) room o l (measured .0) (omega (arith, bytes))
 
-      pub write-done : byteCount bits ≤ room → accepted (byteCount bits, bits) ≡ write m row room
-      write-done h =
+      pub write-done : byteCount (h .bits) ≤ room → accepted (byteCount (h .bits), h) ≡ write m row room
+      write-done fits =
           let w : Writable (writing m row) room = record { asked = o; count = l; legal = measured .0; fits = omega (arith, bytes) } in
-          sym (write-accepts m row room w ∙ ap₂ (λ (k n : ℕ). accepted (k, n)) bytes (measured .1))
+          let b = bytes in
+          let g : headerOf m row ≡ h = measured .1 in
+          let same : _≡_ {A = Outcome (ℕ × Header)} (accepted (length (encoding m row), headerOf m row)) (accepted (byteCount (h .bits), h)) = cc in
+          sym (write-accepts m row room w ∙ same)
 
 -- ## What is left behind
 
 module _ (m : ℕ) (row before : List ℕ) where
-  left : {outcome : Outcome (ℕ × ℕ)} → outcome ≡ write m row (length before) → buffer outcome (encoding m row) before ≡ writeInto m row before
+  left : {outcome : Outcome (ℕ × Header)} → outcome ≡ write m row (length before) → buffer outcome (encoding m row) before ≡ writeInto m row before
   unfolding writeInto
-  left e = ap (λ (o : Outcome (ℕ × ℕ)). buffer o (encoding m row) before) e
+  left e = ap (λ (o : Outcome (ℕ × Header)). buffer o (encoding m row) before) e
 
   pub write-order : isOrder m ≡ false → (refused BadOrder ≡ write m row (length before)) × (before ≡ writeInto m row before)
   unfolding write
@@ -89,10 +95,10 @@ module _ (m : ℕ) (row before : List ℕ) where
   write-refused r e = left e
 
   -- what the codeword writer asks, and what it leaves
-  module _ (bytes bits : ℕ) (e : accepted (bytes, bits) ≡ write m row (length before)) where
+  module _ (bytes : ℕ) (h : Header) (e : accepted (bytes, h) ≡ write m row (length before)) where
     pub write-asks : Fits m row bytes (length before)
     write-asks =
-        let x = write-is m row (length before) bytes bits (sym e) in
+        let x = write-is m row (length before) bytes h (sym e) in
         record { count = x .0 .count; legal = x .0 .legal; bytes-are = x .1 ∙ bytes-are m row; within = omega (arith, x .0 .fits, x .1) }
 
     pub write-put : (after : List ℕ) → Bytes before → Bytes after → unpack after ≡ putAt 0 (rowBits m row) (unpack before) → after ≡ writeInto m row before

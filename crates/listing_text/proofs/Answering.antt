@@ -14,6 +14,7 @@ use Rattle.calls.specs.Refusals.{reason}
 use Rattle.calls.specs.Calls.{Outcome, accepted, refused}
 use Rattle.calls.specs.Limits.{maxNumber, maxBytes}
 use Rattle.fibonacci.specs.Leaves.{numberOrZero}
+use Rattle.headers.specs.declared.Header.{Header}
 use Rattle.encoder.specs.Writing.{write}
 use Rattle.encoder.proofs.Writing.{write-is}
 use Rattle.listing_input.specs.Input.{maxInputBytes, fields, isInput}
@@ -26,9 +27,9 @@ use Rattle.listing_text.proofs.Printing.{refusal-length}
 
 -- ## The listing of a row
 
-pub list-written : (m : ℕ) (row : List ℕ) (bytes bits : ℕ) → accepted (bytes, bits) ≡ write m row maxBytes → lines m row bytes ≡ printed (listingOf m row)
+pub list-written : (m : ℕ) (row : List ℕ) (bytes : ℕ) (h : Header) → accepted (bytes, h) ≡ write m row maxBytes → lines m row bytes ≡ printed (listingOf m row)
 unfolding listingOf
-list-written m row bytes bits e = rw (← e) refl
+list-written m row bytes h e = rw (← e) refl
 
 pub list-refused : (m : ℕ) (row : List ℕ) (r : Refusal) → refused r ≡ write m row maxBytes → refusalLine (reason r .0) ≡ printed (listingOf m row)
 unfolding listingOf

@@ -15,6 +15,7 @@ use Rattle.calls.specs.Calls.{Outcome, accepted, refused, check, andThen}
 use Rattle.calls.specs.Limits.{within, isOrder, isOutside, Legal, maxNumber, maxCount, checkEach}
 use Rattle.fibonacci.specs.Leaves.{numberOrZero}
 use Rattle.fibonacci.proofs.Lookup.{number-kept, number-zero}
+use Rattle.headers.specs.declared.Header.{Header}
 use Rattle.encoder.specs.Writing.{write}
 use Rattle.listing_lines.specs.Lines.{lines}
 use Rattle.listing_text.specs.Listing.{listingOf}
@@ -52,7 +53,7 @@ list-fault : (m : ℕ) (row : List ℕ) (r : Refusal) → checkEach {A = ℕ} Ba
     → listingOf m row ≡ check BadOrder (not (isOrder m)) (check TooManyNumbers (ltb maxCount (length row)) (refused r))
 unfolding listingOf write
 list-fault m row r e =
-    ap (λ (o : Outcome (ℕ × ℕ)). andThen (check BadOrder (not (isOrder m)) (check TooManyNumbers (ltb maxCount (length row)) o)) (λ x. accepted (lines m row (x .0))))
+    ap (λ (o : Outcome (ℕ × Header)). andThen (check BadOrder (not (isOrder m)) (check TooManyNumbers (ltb maxCount (length row)) o)) (λ x. accepted (lines m row (x .0))))
     (each-refused BadNumber maxNumber 0 row 0 r _ e)
     ∙ check-then BadOrder (not (isOrder m)) _ _
     ∙ ap (check BadOrder (not (isOrder m))) (check-then TooManyNumbers (ltb maxCount (length row)) (refused r) _)

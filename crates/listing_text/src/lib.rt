@@ -3,6 +3,7 @@ ghost use Rattle.calls.specs.Refusals.{reason};
 ghost use Rattle.listing_text.specs.Listing.{refusalLine, listingOf, printed, text, Puts};
 use calls::CountAnswer;
 use calls::Refusal;
+use headers::EncodingAnswer;
 
 // How many bytes a text has at most.
 pub const MAX_TEXT_BYTES: usize = 155703;
@@ -28,8 +29,8 @@ fn list(order: usize, row: &[u32], out: &mut [u8]) -> CountAnswer
     let mut encoding = [0u8; calls::MAX_BYTES];
     let written = encoder::write(order, row, &mut encoding);
     match written {
-        encoder::WriteAnswer::Refused(r) => refuse(out, r),
-        encoder::WriteAnswer::Written { bytes, bits: _ } => {
+        EncodingAnswer::Refused(r) => refuse(out, r),
+        EncodingAnswer::Encoded { bytes, header: _ } => {
             let size = 55 + 38 * row.len();
             if out.len() < size {
                 return CountAnswer::Refused(Refusal::NoRoom);

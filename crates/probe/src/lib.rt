@@ -1,5 +1,5 @@
 // Every operation of the library for tests and benchmarks in other languages: `probe_X` calls X on the caller's own buffers. What the call answers goes to
-// the last parameter, as far as that has room: the papers' answer number, the place, and three results, which are zeros where there are none.
+// the last parameter, as far as that has room: the papers' answer number, the place, and four results, which are zeros where there are none.
 ghost use mathlib.Core.Path.{_≡_};
 ghost use lib.ListN.{length, set};
 ghost use lib.Seq.{sets};
@@ -7,12 +7,14 @@ ghost use Rattle.reading.specs.Reading.{read, readInto};
 ghost use Rattle.totals.specs.Totals.{total, repeatedTotal};
 ghost use Rattle.encoder.specs.Writing.{write, writeInto};
 ghost use Rattle.appender.specs.Appending.{append, appendInto};
+ghost use Rattle.headers.specs.Headers.{header};
+ghost use Rattle.header_reader.specs.Reading.{readHeader};
 ghost use Rattle.table_decoder.specs.Reading.{readTable, readTableInto, readBytes, readBytesInto};
 ghost use Rattle.dense_encoder.specs.Writing.{writeDense, writeDenseInto};
 ghost use Rattle.dense_decoder.specs.Reading.{readDense, readDenseInto};
 ghost use Rattle.wavelet.specs.Questions.{build, buildInto, extract, rank, select};
 ghost use Rattle.listing_text.specs.Listing.{text, put, putInto};
-ghost use Rattle.answers.specs.Leaves.{single, pair, values};
+ghost use Rattle.answers.specs.Leaves.{single, pair, three, headed, values};
 ghost use Rattle.probe.specs.Leaves.{told};
 
 // Element i becomes x; where i is past the end, nothing changes.
@@ -24,7 +26,7 @@ fn store(list: &mut [u64], i: usize, x: u64)
     }
 }
 
-// The five numbers from the front of a list, as far as it has room.
+// The six numbers from the front of a list, as far as it has room.
 fn tell(answer: &mut [u64], a: answers::Answer)
     ensures { λ r. ⌜ now (answer .exit) ≡ sets (now (answer .entry)) 0 (values a) ⌝ }
 {
@@ -33,14 +35,18 @@ fn tell(answer: &mut [u64], a: answers::Answer)
     store(answer, 2, a.first);
     store(answer, 3, a.second);
     store(answer, 4, a.third);
+    store(answer, 5, a.fourth);
 }
 
 #[no_mangle]
 pub extern "C" fn probe_write(order: usize, row: &[u32], out: &mut [u8], answer: &mut [u64])
-    ensures { λ r. ⌜ now (answer .exit) ≡ told (pair (write order (now (row .entry)) (length (now (out .entry))))) (now (answer .entry)) ⌝ }
+    ensures { λ r. ⌜ now (answer .exit) ≡ told (headed (write order (now (row .entry)) (length (now (out .entry))))) (now (answer .entry)) ⌝ }
     ensures { λ r. ⌜ now (out .exit) ≡ writeInto order (now (row .entry)) (now (out .entry)) ⌝ }
 {
-    tell(answer, answers::of_write(encoder::write(order, row, out)));
+    tell(
+        answer,
+        answers::of_encoding(encoder::write(order, row, out)),
+    );
 }
 
 #[no_mangle]
@@ -95,19 +101,29 @@ pub extern "C" fn probe_dense_read(stoppers: usize, b: &[u8], out: &mut [u32], a
 }
 
 #[no_mangle]
+pub extern "C" fn probe_header(order: usize, s: &[u8], answer: &mut [u64])
+    ensures { λ r. ⌜ now (answer .exit) ≡ told (three (readHeader order (now (s .entry)))) (now (answer .entry)) ⌝ }
+{
+    tell(answer, answers::of_header(header_reader::read(order, s)));
+}
+
+#[no_mangle]
 pub extern "C" fn probe_append(
     order: usize,
     buf: &mut [u8],
-    used: usize,
+    bits: usize,
+    count: usize,
+    total: u64,
     n: u32,
     answer: &mut [u64],
 )
-    ensures { λ r. ⌜ now (answer .exit) ≡ told (pair (append order (now (buf .entry)) used n)) (now (answer .entry)) ⌝ }
-    ensures { λ r. ⌜ now (buf .exit) ≡ appendInto order (now (buf .entry)) used n ⌝ }
+    ensures { λ r. ⌜ now (answer .exit) ≡ told (headed (append order (length (now (buf .entry))) (header bits count total) n)) (now (answer .entry)) ⌝ }
+    ensures { λ r. ⌜ now (buf .exit) ≡ appendInto order (now (buf .entry)) (header bits count total) n ⌝ }
 {
+    let header = headers::Header { bits, count, total };
     tell(
         answer,
-        answers::of_append(appender::append(order, buf, used, n)),
+        answers::of_encoding(appender::append(order, buf, header, n)),
     );
 }
 

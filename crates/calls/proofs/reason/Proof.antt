@@ -14,14 +14,14 @@ enum-told-2 c = search needs
 with-place-requires-2 : tie.Need-with-place-requires-2
 with-place-requires-2 c κs = search needs
 
-enum-told-3 : tie.Need-enum-told-3
-enum-told-3 c = search needs
+enum-known-r : tie.Need-enum-known-r
+enum-known-r c = search needs
 
 with-place-requires-3 : tie.Need-with-place-requires-3
 with-place-requires-3 c κs = search needs
 
-enum-known-r : tie.Need-enum-known-r
-enum-known-r c = search needs
+enum-told-3 : tie.Need-enum-told-3
+enum-told-3 c = search needs
 
 with-place-requires-4 : tie.Need-with-place-requires-4
 with-place-requires-4 c κs = search needs
@@ -56,14 +56,14 @@ enum-told-8 c = search needs
 with-place-requires-9 : tie.Need-with-place-requires-9
 with-place-requires-9 c κs = search needs
 
-enum-told-9 : tie.Need-enum-told-9
-enum-told-9 c = search needs
+enum-known-r-2 : tie.Need-enum-known-r-2
+enum-known-r-2 c = search needs
 
 with-place-requires-10 : tie.Need-with-place-requires-10
 with-place-requires-10 c κs = search needs
 
-enum-known-r-2 : tie.Need-enum-known-r-2
-enum-known-r-2 c = search needs
+enum-told-9 : tie.Need-enum-told-9
+enum-told-9 c = search needs
 
 with-place-requires-11 : tie.Need-with-place-requires-11
 with-place-requires-11 c κs = search needs
@@ -86,14 +86,14 @@ enum-told-12 c = search needs
 with-place-requires-14 : tie.Need-with-place-requires-14
 with-place-requires-14 c κs = search needs
 
-enum-told-13 : tie.Need-enum-told-13
-enum-told-13 c = search needs
+enum-known-r-3 : tie.Need-enum-known-r-3
+enum-known-r-3 c = search needs
 
 with-place-requires-15 : tie.Need-with-place-requires-15
 with-place-requires-15 c κs = search needs
 
-enum-known-r-3 : tie.Need-enum-known-r-3
-enum-known-r-3 c = search needs
+enum-told-13 : tie.Need-enum-told-13
+enum-told-13 c = search needs
 
 with-place-requires-16 : tie.Need-with-place-requires-16
 with-place-requires-16 c κs = search needs
@@ -147,10 +147,10 @@ returns-2 : tie.Need-returns-2
 returns-2 c = rw (c .before .enum-told2 .given .1) (c .with-place2 .ensures)
 
 returns-3 : tie.Need-returns-3
-returns-3 c = rw (c .before .enum-told3 .given .1) (c .with-place3 .ensures)
+returns-3 c = rw (c .before .before .r .given .1) (c .with-place3 .ensures)
 
 returns-4 : tie.Need-returns-4
-returns-4 c = rw (c .before .before .r .given .1) (c .with-place4 .ensures)
+returns-4 c = rw (c .before .enum-told3 .given .1) (c .with-place4 .ensures)
 
 returns-5 : tie.Need-returns-5
 returns-5 c = rw (c .before .enum-told4 .given .1) (c .with-place5 .ensures)
@@ -168,10 +168,10 @@ returns-9 : tie.Need-returns-9
 returns-9 c = rw (c .before .enum-told8 .given .1) (c .with-place9 .ensures)
 
 returns-10 : tie.Need-returns-10
-returns-10 c = rw (c .before .enum-told9 .given .1) (c .with-place10 .ensures)
+returns-10 c = rw (c .before .before .r2 .given .1) (c .with-place10 .ensures)
 
 returns-11 : tie.Need-returns-11
-returns-11 c = rw (c .before .before .r2 .given .1) (c .with-place11 .ensures)
+returns-11 c = rw (c .before .enum-told9 .given .1) (c .with-place11 .ensures)
 
 returns-12 : tie.Need-returns-12
 returns-12 c = rw (c .before .enum-told10 .given .1) (c .with-place12 .ensures)
@@ -183,10 +183,10 @@ returns-14 : tie.Need-returns-14
 returns-14 c = rw (c .before .enum-told12 .given .1) (c .with-place14 .ensures)
 
 returns-15 : tie.Need-returns-15
-returns-15 c = rw (c .before .enum-told13 .given .1) (c .with-place15 .ensures)
+returns-15 c = rw (c .before .before .r3 .given .1) (c .with-place15 .ensures)
 
 returns-16 : tie.Need-returns-16
-returns-16 c = rw (c .before .before .r3 .given .1) (c .with-place16 .ensures)
+returns-16 c = rw (c .before .enum-told13 .given .1) (c .with-place16 .ensures)
 
 returns-17 : tie.Need-returns-17
 returns-17 c = rw (c .before .enum-told14 .given .1) (c .with-place17 .ensures)
@@ -217,9 +217,9 @@ reason-spec =
     with-place-requires
     enum-told-2
     with-place-requires-2
-    enum-told-3
-    with-place-requires-3
     enum-known-r
+    with-place-requires-3
+    enum-told-3
     with-place-requires-4
     enum-told-4
     with-place-requires-5
@@ -231,9 +231,9 @@ reason-spec =
     with-place-requires-8
     enum-told-8
     with-place-requires-9
-    enum-told-9
-    with-place-requires-10
     enum-known-r-2
+    with-place-requires-10
+    enum-told-9
     with-place-requires-11
     enum-told-10
     with-place-requires-12
@@ -241,9 +241,9 @@ reason-spec =
     with-place-requires-13
     enum-told-12
     with-place-requires-14
-    enum-told-13
-    with-place-requires-15
     enum-known-r-3
+    with-place-requires-15
+    enum-told-13
     with-place-requires-16
     enum-told-14
     with-place-requires-17

@@ -4,7 +4,8 @@ use borrow.Author.Needs.{needs}
 use borrow.Author.Tests.{not-true, not-false}
 use Rattle.calls.specs.Calls.{accepted}
 use Rattle.calls.proofs.Checks.{order-is}
-use Rattle.encoder.specs.Writing.{write, writeOutcome}
+use Rattle.headers.specs.Headers.{encodingOutcome}
+use Rattle.encoder.specs.Writing.{write}
 use Rattle.encoder.proofs.Writing.{write-order, write-refused, write-asks, write-put}
 use Rattle.encoder.proofs.write.Statement.{statement}
 use Rattle.encoder.proofs.write.Tie as tie
@@ -37,7 +38,7 @@ low-digits-requires c κs = search needs
 planned : (c : tie.After-planned2)
     → let a = c .before .before .before .before .before .before .before .before .before .args in
     accepted (c .planned2 .given .0 .0, c .planned2 .given .0 .1 .0) ≡ write (a .order) (a .row .now) (length (a .out .now))
-planned c = sym (ap writeOutcome (c .planned2 .given .1)) ∙ c .before .before .plan .ensures
+planned c = sym (ap encodingOutcome (c .planned2 .given .1)) ∙ c .before .before .plan .ensures
 
 put-row-requires : tie.Need-put-row-requires
 put-row-requires c κs =
@@ -51,7 +52,7 @@ put-row-requires c κs =
 returns-2 : tie.Need-returns-2
 returns-2 c =
     let m = c .before in
-    let e = sym (ap writeOutcome (m .planned .given .1)) ∙ m .before .before .plan .ensures in
+    let e = sym (ap encodingOutcome (m .planned .given .1)) ∙ m .before .before .plan .ensures in
     (e, write-refused _ _ _ _ e)
 
 same-length : tie.Need-same-length

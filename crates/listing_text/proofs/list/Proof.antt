@@ -5,7 +5,7 @@ use lib.ListN.{length}
 use Rattle.calls.specs.declared.Refusal.the-variants.{NoRoom}
 use Rattle.calls.specs.declared.CountAnswer.the-variants.{Count, Refused}
 use Rattle.calls.specs.Limits.{maxBytes}
-use Rattle.encoder.specs.Writing.{writeOutcome}
+use Rattle.headers.specs.Headers.{encodingOutcome}
 use Rattle.calls.proofs.Checks.{order-is}
 use Rattle.calls.proofs.Writing.{Writable}
 use Rattle.encoder.proofs.Writing.{writing, write-is}
@@ -24,7 +24,7 @@ written : (c : tie.After-known-told2)
     Writable (writing (a .order) (a .row .now)) maxBytes × (lines (a .order) (a .row .now) (c .before .written2 .given .0 .0) ≡ printed (listingOf (a .order) (a .row .now)))
 written c =
     let a = c .before .before .before .before .before .before .before .before .args in
-    let e = ap writeOutcome (sym (c .before .written2 .given .1)) ∙ c .before .before .before .before .write .ensures .0 in
+    let e = ap encodingOutcome (sym (c .before .written2 .given .1)) ∙ c .before .before .before .before .write .ensures .0 in
     (write-is (a .order) (a .row .now) maxBytes _ _ (sym e) .0, list-written (a .order) (a .row .now) _ _ e)
 
 slice-aggregate-write : tie.Need-slice-aggregate-write
@@ -65,7 +65,7 @@ same-length c = search needs
 returns-2 : tie.Need-returns-2
 returns-2 c =
     let a = c .before .before .before .before .before .before .before .before .before .before .before .before .args in
-    let e = ap writeOutcome (sym (c .before .before .before .before .before .written .given .1)) ∙ c .before .before .before .before .before .before .before .before .write .ensures .0 in
+    let e = ap encodingOutcome (sym (c .before .before .before .before .before .written .given .1)) ∙ c .before .before .before .before .before .before .before .before .write .ensures .0 in
     puts-same _ _ (a .out .now) (c .before .before .refuse .result) _ (list-refused (a .order) (a .row .now) _ e) (c .before .before .refuse .ensures)
 
 same-length-2 : tie.Need-same-length-2

@@ -1,4 +1,5 @@
-use Rattle.probe.proofs.Telling.{tells-single}
+use Rattle.answers.specs.Leaves.{single}
+use Rattle.probe.proofs.Telling.{tells}
 use borrow.Author.Needs.{needs}
 use Rattle.probe.proofs.probe_dense_read.Statement.{statement}
 use Rattle.probe.proofs.probe_dense_read.Tie as tie
@@ -24,7 +25,7 @@ returns c =
     let o = t .before in
     let w = o .before .before .before in
     let a = w .before .before .before .before .before .before .args in
-    (tells-single (a .answer .now) _ (o .of-count .result) (t .tell .ensures) (o .of-count .ensures) (w .read .ensures .0), w .read .ensures .1)
+    (tells single (a .answer .now) _ (o .of-count .result) (t .tell .ensures) (o .of-count .ensures) (w .read .ensures .0), w .read .ensures .1)
 
 pub probe-dense-read-spec : {M : Type 1} → statement M
 probe-dense-read-spec =

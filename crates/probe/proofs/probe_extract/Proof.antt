@@ -1,4 +1,5 @@
-use Rattle.probe.proofs.Telling.{tells-pair}
+use Rattle.answers.specs.Leaves.{pair}
+use Rattle.probe.proofs.Telling.{tells}
 use borrow.Author.Needs.{needs}
 use Rattle.probe.proofs.probe_extract.Statement.{statement}
 use Rattle.probe.proofs.probe_extract.Tie as tie
@@ -21,7 +22,7 @@ returns c =
     let o = t .before in
     let w = o .before in
     let a = w .before .before .before .before .args in
-    tells-pair (a .answer .now) _ (o .of-question .result) (t .tell .ensures) (o .of-question .ensures) (w .extract .ensures)
+    tells pair (a .answer .now) _ (o .of-question .result) (t .tell .ensures) (o .of-question .ensures) (w .extract .ensures)
 
 pub probe-extract-spec : {M : Type 1} → statement M
 probe-extract-spec =

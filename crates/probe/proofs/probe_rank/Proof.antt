@@ -1,4 +1,5 @@
-use Rattle.probe.proofs.Telling.{tells-pair}
+use Rattle.answers.specs.Leaves.{pair}
+use Rattle.probe.proofs.Telling.{tells}
 use borrow.Author.Needs.{needs}
 use Rattle.probe.proofs.probe_rank.Statement.{statement}
 use Rattle.probe.proofs.probe_rank.Tie as tie
@@ -21,7 +22,7 @@ returns c =
     let o = t .before in
     let w = o .before in
     let a = w .before .before .before .before .args in
-    tells-pair (a .answer .now) _ (o .of-question .result) (t .tell .ensures) (o .of-question .ensures) (w .rank .ensures)
+    tells pair (a .answer .now) _ (o .of-question .result) (t .tell .ensures) (o .of-question .ensures) (w .rank .ensures)
 
 pub probe-rank-spec : {M : Type 1} → statement M
 probe-rank-spec =

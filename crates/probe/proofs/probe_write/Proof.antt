@@ -1,4 +1,5 @@
-use Rattle.probe.proofs.Telling.{tells-pair}
+use Rattle.answers.specs.Leaves.{headed}
+use Rattle.probe.proofs.Telling.{tells}
 use borrow.Author.Needs.{needs}
 use Rattle.probe.proofs.probe_write.Statement.{statement}
 use Rattle.probe.proofs.probe_write.Tie as tie
@@ -6,8 +7,8 @@ use Rattle.probe.proofs.probe_write.Tie as tie
 write-requires : tie.Need-write-requires
 write-requires c κs = search needs
 
-of-write-requires : tie.Need-of-write-requires
-of-write-requires c κs = search needs
+of-encoding-requires : tie.Need-of-encoding-requires
+of-encoding-requires c κs = search needs
 
 tell-requires : tie.Need-tell-requires
 tell-requires c κs = search needs
@@ -24,9 +25,9 @@ returns c =
     let o = t .before in
     let w = o .before .before .before in
     let a = w .before .before .before .before .before .before .args in
-    (tells-pair (a .answer .now) _ (o .of-write .result) (t .tell .ensures) (o .of-write .ensures) (w .write .ensures .0), w .write .ensures .1)
+    (tells headed (a .answer .now) _ (o .of-encoding .result) (t .tell .ensures) (o .of-encoding .ensures) (w .write .ensures .0), w .write .ensures .1)
 
 pub probe-write-spec : {M : Type 1} → statement M
 probe-write-spec =
     tie.close
-    (tie.spec write-requires of-write-requires tell-requires same-length same-length-2 returns)
+    (tie.spec write-requires of-encoding-requires tell-requires same-length same-length-2 returns)

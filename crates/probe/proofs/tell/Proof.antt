@@ -17,6 +17,9 @@ store-requires-4 c κs = search needs
 store-requires-5 : tie.Need-store-requires-5
 store-requires-5 c κs = search needs
 
+store-requires-6 : tie.Need-store-requires-6
+store-requires-6 c κs = search needs
+
 same-length : tie.Need-same-length
 same-length c = search needs
 
@@ -32,5 +35,6 @@ tell-spec =
     store-requires-3
     store-requires-4
     store-requires-5
+    store-requires-6
     same-length
     returns)

@@ -1,6 +1,6 @@
 use borrow.Author.Needs.{needs}
-use Rattle.answers.proofs.of_write.Statement.{statement}
-use Rattle.answers.proofs.of_write.Tie as tie
+use Rattle.answers.proofs.of_header.Statement.{statement}
+use Rattle.answers.proofs.of_header.Tie as tie
 
 enum-known-a : tie.Need-enum-known-a
 enum-known-a c = search needs
@@ -20,5 +20,7 @@ returns c = rw (c .before .before .a .given .1) (c .accepted .ensures)
 returns-2 : tie.Need-returns-2
 returns-2 c = rw (c .before .before .a2 .given .1) (c .refused .ensures)
 
-pub of-write-spec : {M : Type 1} → statement M
-of-write-spec = tie.close (tie.spec enum-known-a accepted-requires enum-known-a-2 refused-requires returns returns-2)
+pub of-header-spec : {M : Type 1} → statement M
+of-header-spec =
+    tie.close
+    (tie.spec enum-known-a accepted-requires enum-known-a-2 refused-requires returns returns-2)
