@@ -64,19 +64,40 @@ static void add_row(struct input *in, size_t code, enum kind kind, size_t count)
         in->row[i] = number_of(kind);
 }
 
+static size_t bytes_of(size_t bits)
+{
+    return (bits + 7) / 8;
+}
+
+static void put(const struct input *in, uint32_t n, uint8_t *encoding, struct header *header)
+{
+    header->bits = plain_put_codeword(in->order, n, encoding, header->bits);
+    header->count++;
+    header->total += n;
+}
+
 /* The encoding of the first `count` numbers. A codeword has at most 47 bits, and what is put behind an encoding is shorter than 32 bytes. */
-static uint8_t *encoding_of(const struct input *in, size_t count, size_t *used)
+static uint8_t *encoding_of(const struct input *in, size_t count, struct header *header)
 {
     uint8_t *encoding = room(6 * in->count + 32);
 
-    *used = plain_write(in->order, in->row, count, encoding);
+    memset(header, 0, sizeof *header);
+    for (size_t i = 0; i < count; i++)
+        put(in, in->row[i], encoding, header);
     return encoding;
+}
+
+static void add_encoding(struct input *in, size_t count)
+{
+    in->encoding = encoding_of(in, count, &in->header);
+    in->used = bytes_of(in->header.bits);
 }
 
 static void add_encodings(struct input *in)
 {
-    in->encoding = encoding_of(in, in->count, &in->used);
-    in->shorter = encoding_of(in, in->count - 1, &in->shorter_used);
+    add_encoding(in, in->count);
+    in->shorter = encoding_of(in, in->count - 1, &in->shorter_header);
+    in->shorter_used = bytes_of(in->shorter_header.bits);
     in->shorter_last = in->shorter_used > 0 ? in->shorter[in->shorter_used - 1] : 0;
     if (in->order == 2)
         in->peer = sdsl_row_of(in->row, in->count);
@@ -117,9 +138,11 @@ static void add_text(struct input *in)
 /* A codeword of more than 72 zeros and the last ones is above every number of a row. */
 static void add_refused(struct input *in, enum kind kind)
 {
-    in->encoding = encoding_of(in, kind == REFUSED_7 ? in->count - 1 : in->count, &in->used);
-    if (kind == REFUSED_4)
-        in->used = plain_append(in->order, in->encoding, in->used, 1);
+    add_encoding(in, kind == REFUSED_7 ? in->count - 1 : in->count);
+    if (kind == REFUSED_4) {
+        put(in, 1, in->encoding, &in->header);
+        in->used = bytes_of(in->header.bits);
+    }
     if (kind == REFUSED_6)
         in->used += 1;
     if (kind == REFUSED_7) {
@@ -132,12 +155,12 @@ static void add_refused(struct input *in, enum kind kind)
 static void add_two_bytes(struct input *in, size_t order)
 {
     add_row(in, order, TWO_BYTES, 1 + draw() % 4);
-    in->encoding = encoding_of(in, in->count, &in->used);
+    add_encoding(in, in->count);
     while (in->used != 2) {
         free(in->row);
         free(in->encoding);
         add_row(in, order, TWO_BYTES, 1 + draw() % 4);
-        in->encoding = encoding_of(in, in->count, &in->used);
+        add_encoding(in, in->count);
     }
 }
 

@@ -30,14 +30,22 @@ enum kind {
 extern const size_t orders[ORDERS], stoppers[STOPPERS];
 int is_dense(size_t code);
 
+/* What goes with an encoding: bits in use, numbers, and their total. */
+struct header {
+    size_t bits, count;
+    uint64_t total;
+};
+
 /* A row and what is made of it. What a group of calls does not need is NULL. */
 struct input {
     size_t order, stoppers; /* of its code; the other is 0 */
     size_t count;
     uint32_t *row;
-    uint8_t *encoding; /* the encoding, and how many bytes it has */
+    uint8_t *encoding; /* the encoding, its header, and how many bytes it has */
+    struct header header;
     size_t used;
-    uint8_t *shorter; /* the encoding without the last number, with room for it; its last byte, which appending changes */
+    uint8_t *shorter; /* the encoding without the last number, with room for it, and its header; its last byte, which appending changes */
+    struct header shorter_header;
     size_t shorter_used;
     uint8_t shorter_last;
     uint8_t *index;

@@ -32,8 +32,7 @@ static size_t put_bit(uint8_t *out, size_t at, int bit)
     return at + 1;
 }
 
-/* Writes the codeword of a number bit by bit, and returns the bit after it. */
-static size_t put(size_t order, uint32_t n, uint8_t *out, size_t at)
+size_t plain_put_codeword(size_t order, uint32_t n, uint8_t *out, size_t at)
 {
     int digits[PLAIN_DIGITS];
     size_t d = 0;
@@ -58,7 +57,7 @@ size_t plain_write(size_t order, const uint32_t *row, size_t count, uint8_t *out
     size_t at = 0;
 
     for (size_t i = 0; i < count; i++)
-        at = put(order, row[i], out, at);
+        at = plain_put_codeword(order, row[i], out, at);
     return (at + 7) / 8;
 }
 
@@ -94,20 +93,6 @@ uint64_t plain_total(size_t order, const uint8_t *s, size_t len, size_t a, size_
     for (size_t i = a; i < b; i++)
         total += row[i];
     return total;
-}
-
-size_t plain_append(size_t order, uint8_t *buf, size_t used, uint32_t n)
-{
-    size_t run = 0, bits = 0;
-
-    for (size_t k = 0; k < 8 * used; k++) {
-        run = buf[k / 8] >> (7 - k % 8) & 1 ? run + 1 : 0;
-        if (run == order) {
-            bits = k + 1;
-            run = 0;
-        }
-    }
-    return (put(order, n, buf, bits) + 7) / 8;
 }
 
 /* One line of the input as a number. */

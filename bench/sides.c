@@ -14,7 +14,7 @@ static uint64_t joined(uint64_t total)
 }
 
 /* Where the results go: the answer of a proved operation, one number, numbers, bytes. */
-static uint64_t answer[5], result;
+static uint64_t answer[6], result;
 static size_t end;
 static uint32_t numbers[4096 + 4];
 static uint64_t wide_numbers[4096 + 4];
@@ -27,16 +27,17 @@ uint64_t answered(void)
 
 /* ## The proved operations */
 
-static void run_read(struct input *in) { probe_read(in->order, in->encoding, in->used, numbers, 4096, answer, 5); }
-static void run_table_read(struct input *in) { probe_table_read(in->encoding, in->used, numbers, 4096, answer, 5); }
-static void run_table_read_bytes(struct input *in) { probe_table_read_bytes(in->encoding, in->used, bytes, 4 * 4096, answer, 5); }
-static void run_total(struct input *in) { probe_total(in->order, in->encoding, in->used, 0, in->count, answer, 5); }
-static void run_repeated(struct input *in) { probe_repeated_total(in->order, in->encoding, in->used, REPEATS, SHARED, answer, 5); }
-static void run_write(struct input *in) { probe_write(in->order, in->row, in->count, bytes, sizeof bytes, answer, 5); }
-static void run_dense_read(struct input *in) { probe_dense_read(in->stoppers, in->encoding, in->used, numbers, 4096, answer, 5); }
-static void run_dense_write(struct input *in) { probe_dense_write(in->stoppers, in->row, in->count, bytes, sizeof bytes, answer, 5); }
-static void run_build(struct input *in) { probe_build(in->order, ALPHABET, in->row, in->count, bytes, sizeof bytes, answer, 5); }
-static void run_listing(struct input *in) { probe_listing((const uint8_t *)in->text, 11 * in->lines, bytes, sizeof bytes, answer, 5); }
+static void run_read(struct input *in) { probe_read(in->order, in->encoding, in->used, numbers, 4096, answer, 6); }
+static void run_table_read(struct input *in) { probe_table_read(in->encoding, in->used, numbers, 4096, answer, 6); }
+static void run_table_read_bytes(struct input *in) { probe_table_read_bytes(in->encoding, in->used, bytes, 4 * 4096, answer, 6); }
+static void run_total(struct input *in) { probe_total(in->order, in->encoding, in->used, 0, in->count, answer, 6); }
+static void run_repeated(struct input *in) { probe_repeated_total(in->order, in->encoding, in->used, REPEATS, SHARED, answer, 6); }
+static void run_header(struct input *in) { probe_header(in->order, in->encoding, in->used, answer, 6); }
+static void run_write(struct input *in) { probe_write(in->order, in->row, in->count, bytes, sizeof bytes, answer, 6); }
+static void run_dense_read(struct input *in) { probe_dense_read(in->stoppers, in->encoding, in->used, numbers, 4096, answer, 6); }
+static void run_dense_write(struct input *in) { probe_dense_write(in->stoppers, in->row, in->count, bytes, sizeof bytes, answer, 6); }
+static void run_build(struct input *in) { probe_build(in->order, ALPHABET, in->row, in->count, bytes, sizeof bytes, answer, 6); }
+static void run_listing(struct input *in) { probe_listing((const uint8_t *)in->text, 11 * in->lines, bytes, sizeof bytes, answer, 6); }
 
 /* The encoding without its last number, as it was before that was appended. */
 static void take_off(struct input *in)
@@ -45,25 +46,35 @@ static void take_off(struct input *in)
         in->shorter[in->shorter_used - 1] = in->shorter_last;
 }
 
+static void append(struct input *in, uint32_t n)
+{
+    const struct header *h = &in->shorter_header;
+
+    take_off(in);
+    probe_append(in->order, in->shorter, 6 * in->count + 32, h->bits, h->count, h->total, n, answer, 6);
+}
+
+/* Each number of the row, in turn, is the one that is put behind the others: so there are as many of them in a part, whatever the length of its rows, and none
+   is known by heart. The last one makes the encoding of the row. */
 static void run_append(struct input *in)
 {
-    take_off(in);
-    probe_append(in->order, in->shorter, 6 * in->count + 32, in->shorter_used, in->row[in->count - 1], answer, 5);
+    for (size_t i = 0; i < in->count; i++)
+        append(in, in->row[i]);
 }
 
 static void run_extract(struct input *in)
 {
-    probe_extract(in->order, ALPHABET, in->count, in->index, (in->index_bits + 7) / 8, in->place, answer, 5);
+    probe_extract(in->order, ALPHABET, in->count, in->index, (in->index_bits + 7) / 8, in->place, answer, 6);
 }
 
 static void run_rank(struct input *in)
 {
-    probe_rank(in->order, ALPHABET, in->count, in->index, (in->index_bits + 7) / 8, in->number, in->place, answer, 5);
+    probe_rank(in->order, ALPHABET, in->count, in->index, (in->index_bits + 7) / 8, in->number, in->place, answer, 6);
 }
 
 static void run_select(struct input *in)
 {
-    probe_select(in->order, ALPHABET, in->count, in->index, (in->index_bits + 7) / 8, in->number, in->use, answer, 5);
+    probe_select(in->order, ALPHABET, in->count, in->index, (in->index_bits + 7) / 8, in->number, in->use, answer, 6);
 }
 
 /* ## Plain C */
@@ -78,10 +89,13 @@ static void plain_run_dense_write(struct input *in) { result = plain_dense_write
 static void plain_run_build(struct input *in) { result = plain_build(in->order, ALPHABET, in->row, in->count, bytes); }
 static void plain_run_listing(struct input *in) { result = plain_listing(in->text, in->lines, (char *)bytes); }
 
-static void plain_run_append(struct input *in)
+/* The same as appending. */
+static void plain_run_put(struct input *in)
 {
-    take_off(in);
-    result = plain_append(in->order, in->shorter, in->shorter_used, in->row[in->count - 1]);
+    for (size_t i = 0; i < in->count; i++) {
+        take_off(in);
+        result = plain_put_codeword(in->order, in->row[i], in->shorter, in->shorter_header.bits);
+    }
 }
 
 static void plain_run_extract(struct input *in) { result = plain_extract(in->order, ALPHABET, in->count, in->index, in->place, &end); }
@@ -118,6 +132,12 @@ static int proved(uint64_t first)
     return answer[0] == 0 && answer[2] == first;
 }
 
+/* The three results from the one at `from` on: the header of the whole row. */
+static int told_header(const struct input *in, size_t from)
+{
+    return answer[from] == in->header.bits && answer[from + 1] == in->count && answer[from + 2] == sum_of(in);
+}
+
 static int row_of(const struct input *in)
 {
     return memcmp(numbers, in->row, 4 * in->count) == 0;
@@ -127,12 +147,34 @@ static int right_row(struct input *in) { return proved(in->count) && row_of(in);
 static int right_row_bytes(struct input *in) { return proved(in->count) && memcmp(bytes, in->row, 4 * in->count) == 0; }
 static int right_total(struct input *in) { return proved(sum_of(in)); }
 static int right_repeated(struct input *in) { return proved(joined(sum_of(in))); }
-static int right_encoding(struct input *in) { return proved(in->used) && memcmp(bytes, in->encoding, in->used) == 0; }
-static int right_longer(struct input *in) { return proved(in->used) && memcmp(in->shorter, in->encoding, in->used) == 0; }
+static int right_header(struct input *in) { return answer[0] == 0 && told_header(in, 2); }
+static int right_dense(struct input *in) { return proved(in->used) && memcmp(bytes, in->encoding, in->used) == 0; }
+static int right_encoding(struct input *in) { return right_dense(in) && told_header(in, 3); }
 static int right_index(struct input *in) { return proved(in->index_bits) && memcmp(bytes, in->index, (in->index_bits + 7) / 8) == 0; }
 static int right_number(struct input *in) { return proved(in->number); }
 static int right_rank(struct input *in) { return proved(in->use - 1); }
 static int right_place(struct input *in) { return proved(in->place); }
+
+/* Whether the last call put a number behind the others, as plain C puts it. */
+static int appended(const struct input *in, uint32_t n)
+{
+    const struct header *h = &in->shorter_header;
+    uint8_t put[8] = {in->shorter_last};
+    size_t k = h->bits / 8, bits = 8 * k + plain_put_codeword(in->order, n, put, h->bits % 8), used = (bits + 7) / 8;
+
+    return proved(used) && answer[3] == bits && answer[4] == in->count && answer[5] == h->total + n &&
+           memcmp(in->shorter, in->encoding, k) == 0 && memcmp(in->shorter + k, put, used - k) == 0;
+}
+
+static int right_append(struct input *in)
+{
+    for (size_t i = 0; i < in->count; i++) {
+        append(in, in->row[i]);
+        if (!appended(in, in->row[i]))
+            return 0;
+    }
+    return 1;
+}
 
 static int right_text(struct input *in)
 {
@@ -145,7 +187,7 @@ static int plain_right_row(struct input *in) { return result == in->count && row
 static int plain_right_total(struct input *in) { return result == sum_of(in); }
 static int plain_right_repeated(struct input *in) { return result == joined(sum_of(in)); }
 static int plain_right_encoding(struct input *in) { return result == in->used && memcmp(bytes, in->encoding, in->used) == 0; }
-static int plain_right_longer(struct input *in) { return result == in->used && memcmp(in->shorter, in->encoding, in->used) == 0; }
+static int plain_right_put(struct input *in) { return result == in->header.bits && memcmp(in->shorter, in->encoding, in->used) == 0; }
 static int plain_right_index(struct input *in) { return result == in->index_bits; }
 static int plain_right_number(struct input *in) { return result == in->number && end == in->index_bits; }
 static int plain_right_rank(struct input *in) { return result == in->use - 1 && end == in->index_bits; }
@@ -171,7 +213,8 @@ const struct call calls[SIDES] = {
     [TABLE_READ_BYTES] = {"table read for the host", run_table_read_bytes, right_row_bytes},
     [TOTAL] = {"total", run_total, right_total},
     [REPEATED_TOTAL] = {"repeated total", run_repeated, right_repeated},
-    [APPEND] = {"append", run_append, right_longer},
+    [HEADER] = {"header of an encoding", run_header, right_header},
+    [APPEND] = {"append", run_append, right_append},
     [WRITE] = {"write", run_write, right_encoding},
     [BUILD] = {"build", run_build, right_index},
     [EXTRACT] = {"extract", run_extract, right_number},
@@ -179,12 +222,12 @@ const struct call calls[SIDES] = {
     [SELECT] = {"select", run_select, right_place},
     [LISTING] = {"listing", run_listing, right_text},
     [DENSE_READ] = {"dense read", run_dense_read, right_row},
-    [DENSE_WRITE] = {"dense write", run_dense_write, right_encoding},
+    [DENSE_WRITE] = {"dense write", run_dense_write, right_dense},
     [PLAIN_READ] = {"plain C bit reader", plain_run_read, plain_right_row},
     [PLAIN_TABLE_READ] = {"001's table reader in C", plain_run_table_read, plain_right_row},
     [PLAIN_TOTAL] = {"plain C", plain_run_total, plain_right_total},
     [PLAIN_REPEATED_TOTAL] = {"plain C", plain_run_repeated, plain_right_repeated},
-    [PLAIN_APPEND] = {"plain C", plain_run_append, plain_right_longer},
+    [PLAIN_PUT] = {"plain C put of one codeword", plain_run_put, plain_right_put},
     [PLAIN_WRITE] = {"plain C writer, bit by bit", plain_run_write, plain_right_encoding},
     [PLAIN_BUILD] = {"plain C by stable partition", plain_run_build, plain_right_index},
     [PLAIN_EXTRACT] = {"the same walk in plain C", plain_run_extract, plain_right_number},

@@ -1,4 +1,4 @@
-/* What is measured: each side is one call on an input, and a test that it gave the right result. */
+/* What is measured: each side is one call on an input (of appending, one for each number of its row), and a test that it gave the right result. */
 #ifndef SIDES_H
 #define SIDES_H
 
@@ -10,6 +10,7 @@ enum side {
     TABLE_READ_BYTES,
     TOTAL,
     REPEATED_TOTAL,
+    HEADER,
     APPEND,
     WRITE,
     BUILD,
@@ -23,7 +24,7 @@ enum side {
     PLAIN_TABLE_READ,
     PLAIN_TOTAL,
     PLAIN_REPEATED_TOTAL,
-    PLAIN_APPEND,
+    PLAIN_PUT,
     PLAIN_WRITE,
     PLAIN_BUILD,
     PLAIN_EXTRACT,
