@@ -6,8 +6,9 @@ ghost use lib.ListN.{length, drop};
 ghost use Rattle.bits.specs.Bits.{wordBits, unpack, bytesOf};
 ghost use Rattle.bits.specs.Leaves.{putTo, putAt};
 
-// The n low bytes of w, the highest first, at the front of the slice. Requires: at most 8, and there is room, which `put_word` shows.
-fn store(s: &mut [u8], w: u64, n: usize)
+// The n low bytes of w, the highest first, at the front of the slice. Requires: at most 8, and there is room, which `put_word` shows, and `bit_moves` for
+// the bytes that it moves last.
+pub fn store(s: &mut [u8], w: u64, n: usize)
     requires { ⌜ (n ≤ 8) × (n ≤ length (now s)) ⌝ }
     ensures { λ r. ⌜ now (s .exit) ≡ bytesOf n (wordBits (8 * n) w) ++ drop n (now (s .entry)) ⌝ }
 {
@@ -17,8 +18,8 @@ fn store(s: &mut [u8], w: u64, n: usize)
     }
 }
 
-// The same with all eight bytes of w. (So written it is compiled to one store.) Requires: there is room, which `put_over` shows.
-fn store_word(s: &mut [u8], w: u64)
+// The same with all eight bytes of w. (So written it is compiled to one store.) Requires: there is room, which `put_over` shows, and `bit_moves`.
+pub fn store_word(s: &mut [u8], w: u64)
     requires { ⌜ 8 ≤ length (now s) ⌝ }
     ensures { λ r. ⌜ now (s .exit) ≡ bytesOf 8 (wordBits 64 w) ++ drop 8 (now (s .entry)) ⌝ }
 {

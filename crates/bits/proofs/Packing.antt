@@ -5,20 +5,16 @@ use mathlib.Core.List.{List, [], _∷_, _++_, flatten, append-assoc, append-canc
 use mathlib.Core.Logic.{_⊎_, inl, inr}
 use Prim.Native.Nat.{ℕ, zero, suc, _+_, _-_, _*_, _%_, _^_, _≤_, _<_}
 use native.Mathlib.Omega.{arith}
-use native.Mathlib.Nat.{zero-add, suc-add, two-pow-succ, mod-eq-of-lt}
+use native.Mathlib.Nat.{two-pow-succ, mod-eq-of-lt}
 use native.Mathlib.Decide.{decLe}
 use lib.ListN.{length, take, drop, replicate, replicate-append-replicate}
-use lib.Seq.{drop-nil, drop-at, getD-drop}
+use lib.Seq.{drop-at, getD-drop}
 use lib.Pow.{mod-pow-add}
 use Rattle.bits.specs.Bits.{wordBits, unpack, wordOf, bytesOf, byteCount, pack, padding, Bytes}
+use Rattle.bits.specs.Leaves.{fit}
 use Rattle.bits.proofs.Words.{words-length, words-cons, words-zero, bit-value}
 use Rattle.bits.proofs.Bytes.{unpack-length}
-
--- the first n bits, zeros where they end before
-unfoldable pub fit : ℕ → List Bool → List Bool
-fit zero b = []
-fit (suc n) [] = false ∷ fit n []
-fit (suc n) (a ∷ b) = a ∷ fit n b
+use Rattle.bits.proofs.Fit.{fit-nil, fit-add, fit-long}
 
 pub word-below : (n : ℕ) (b : List Bool) → wordOf n b < 2 ^ n
 unfolding wordOf
@@ -26,24 +22,6 @@ word-below zero b = omega arith
 word-below (suc n) [] = omega (arith, two-pow-succ n, word-below n [])
 word-below (suc n) (false ∷ b) = omega (arith, two-pow-succ n, word-below n b)
 word-below (suc n) (true ∷ b) = omega (arith, two-pow-succ n, word-below n b)
-
-fit-nil : (n : ℕ) → fit n [] ≡ replicate n false
-unfolding fit
-fit-nil zero = refl
-fit-nil (suc n) = ap (λ (l : List Bool). false ∷ l) (fit-nil n)
-
-fit-add : (n k : ℕ) (b : List Bool) → fit (n + k) b ≡ fit n b ++ fit k (drop n b)
-unfolding fit
-fit-add zero k b = ap (λ (x : ℕ). fit x b) (zero-add k)
-fit-add (suc n) k [] =
-    ap (λ (x : ℕ). fit x []) (suc-add n k)
-    ∙ ap (λ (l : List Bool). false ∷ l) (fit-add n k [] ∙ ap (λ (l : List Bool). fit n [] ++ fit k l) (drop-nil n))
-fit-add (suc n) k (a ∷ b) = ap (λ (x : ℕ). fit x (a ∷ b)) (suc-add n k) ∙ ap (λ (l : List Bool). a ∷ l) (fit-add n k b)
-
-pub fit-long : (b : List Bool) (z : ℕ) → fit (length b + z) b ≡ b ++ replicate z false
-unfolding fit
-fit-long [] z = ap (λ (x : ℕ). fit x []) (zero-add z) ∙ fit-nil z
-fit-long (a ∷ b) z = ap (λ (x : ℕ). fit x (a ∷ b)) (suc-add (length b) z) ∙ ap (λ (l : List Bool). a ∷ l) (fit-long b z)
 
 bytes-length : (c : ℕ) (b : List Bool) → length (bytesOf c b) ≡ c
 unfolding bytesOf

@@ -11,10 +11,11 @@ use lib.Pow.{shl-exact, pow-add}
 use lib.Bits.{bitOr, or-shifted}
 use lib.Arith.{digits-lt}
 use Rattle.bits.specs.Bits.{Bytes, wordBits, unpack, bytesOf, byteCount, pack, padding}
-use Rattle.bits.specs.Leaves.{putTo, putAt}
+use Rattle.bits.specs.Leaves.{putTo, putAt, fit}
 use Rattle.bits.proofs.Words.{words-length, words-split, words-join, words-padded}
 use Rattle.bits.proofs.Bytes.{unpack-append, unpack-length, unpack-drop, high-below, top-bits, first-bits}
-use Rattle.bits.proofs.Packing.{fit, fit-long, unpack-bytes, unpack-pack, word-of-bits, bytes-append, bytes-drop, pack-bytes, pack-length, unpack-apart}
+use Rattle.bits.proofs.Fit.{fit-long}
+use Rattle.bits.proofs.Packing.{unpack-bytes, unpack-pack, word-of-bits, bytes-append, bytes-drop, pack-bytes, pack-length, unpack-apart}
 
 -- ## The bytes of a word
 
@@ -56,7 +57,7 @@ word-down (suc n) w = ap (λ (l : List ℕ). (w / 2 ^ (8 * n) % 256) ∷ l) (wor
 pub word-stored : (s : List ℕ) (w : ℕ) → 8 ≤ length s → sets s 0 (bytesDown 8 w) ≡ wordBytes 8 w ++ drop 8 s
 word-stored s w h = sets-eq (bytesDown 8 w) s 0 h ∙ ap (λ (l : List ℕ). l ++ drop 8 s) (word-down 8 w)
 
-unpack-word : (n w : ℕ) → unpack (wordBytes n w) ≡ wordBits (8 * n) w
+pub unpack-word : (n w : ℕ) → unpack (wordBytes n w) ≡ wordBits (8 * n) w
 unpack-word n w =
     let e : 8 * n ≡ length (wordBits (8 * n) w) + 0 = omega (arith, words-length (8 * n) w) in
     unpack-bytes n (wordBits (8 * n) w) ∙ ap (λ (k : ℕ). fit k (wordBits (8 * n) w)) e ∙ fit-long (wordBits (8 * n) w) 0

@@ -17,7 +17,9 @@ use Rattle.lists.specs.Lists.{valuesFrom}
 use Rattle.lists.proofs.Lists.{values-at}
 use Rattle.bits.specs.Bits.{bitValue, wordBits, wordOf}
 use Rattle.bits.proofs.Words.{words-cons, words-join, words-zero}
-use Rattle.bits.proofs.Packing.{fit, fit-long, bits-of-word, word-below}
+use Rattle.bits.specs.Leaves.{fit}
+use Rattle.bits.proofs.Fit.{fit-long}
+use Rattle.bits.proofs.Packing.{bits-of-word, word-below}
 use Rattle.fibonacci.specs.Code.{past, F, ones, first, size, digits, codeword}
 use Rattle.calls.proofs.Checks.{both}
 use Rattle.calls.specs.Limits.{maxNumber, Order}

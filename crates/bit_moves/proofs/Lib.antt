@@ -1,0 +1,3 @@
+pub mod Words
+pub mod Moves
+pub mod Splices
