@@ -6,8 +6,9 @@
 #include <stdio.h>
 
 static const enum side codec[] = {
-    READ,       TOTAL,            REPEATED_TOTAL,   HEADER,      APPEND,   PLAIN_READ, PLAIN_TOTAL, PLAIN_REPEATED_TOTAL, PLAIN_PUT,
-    TABLE_READ, TABLE_READ_BYTES, PLAIN_TABLE_READ, SDSL_DECODE, SDSL_SUM, WRITE,      PLAIN_WRITE, SDSL_ENCODE,
+    READ,        TOTAL,       REPEATED_TOTAL,       HEADER,      APPEND,        REPLACE_FIRST, REPLACE_MIDDLE,   REPLACE_LAST,
+    PLAIN_READ,  PLAIN_TOTAL, PLAIN_REPEATED_TOTAL, PLAIN_PUT,   PLAIN_REPLACE, TABLE_READ,    TABLE_READ_BYTES, PLAIN_TABLE_READ,
+    SDSL_DECODE, SDSL_SUM,    WRITE,                PLAIN_WRITE, SDSL_ENCODE,
 };
 static const enum side index_sides[] = {
     EXTRACT,      PLAIN_EXTRACT, RANK,        PLAIN_RANK, SELECT,      PLAIN_SELECT, BUILD,      PLAIN_BUILD,
@@ -16,7 +17,7 @@ static const enum side index_sides[] = {
 static const enum side dense[] = {DENSE_READ, PLAIN_DENSE_READ, DENSE_WRITE, PLAIN_DENSE_WRITE};
 static const enum side listings[] = {LISTING, PLAIN_LISTING};
 static const enum side readers[] = {TABLE_READ, READ, PLAIN_READ, PLAIN_TABLE_READ};
-static const enum side growing[] = {READ, TABLE_READ, TOTAL, APPEND, WRITE};
+static const enum side growing[] = {READ, TABLE_READ, TOTAL, REPLACE_MIDDLE, APPEND, WRITE};
 static const enum side indexed[] = {BUILD, EXTRACT, RANK, SELECT};
 static const enum side refused[] = {READ, TABLE_READ, TOTAL};
 

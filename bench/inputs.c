@@ -76,10 +76,10 @@ static void put(const struct input *in, uint32_t n, uint8_t *encoding, struct he
     header->total += n;
 }
 
-/* The encoding of the first `count` numbers. A codeword has at most 47 bits, and what is put behind an encoding is shorter than 32 bytes. */
+/* The encoding of the first `count` numbers. */
 static uint8_t *encoding_of(const struct input *in, size_t count, struct header *header)
 {
-    uint8_t *encoding = room(6 * in->count + 32);
+    uint8_t *encoding = room(ENCODING_ROOM(in->count));
 
     memset(header, 0, sizeof *header);
     for (size_t i = 0; i < count; i++)

@@ -36,12 +36,15 @@ struct header {
     uint64_t total;
 };
 
+/* The bytes of an encoding's buffer: a codeword has at most 47 bits, and what is put behind an encoding is shorter than 32 bytes. */
+#define ENCODING_ROOM(count) (6 * (count) + 32)
+
 /* A row and what is made of it. What a group of calls does not need is NULL. */
 struct input {
     size_t order, stoppers; /* of its code; the other is 0 */
     size_t count;
     uint32_t *row;
-    uint8_t *encoding; /* the encoding, its header, and how many bytes it has */
+    uint8_t *encoding; /* the encoding, its header, and how many bytes it has; replacing changes it, and changes it back */
     struct header header;
     size_t used;
     uint8_t *shorter; /* the encoding without the last number, with room for it, and its header; its last byte, which appending changes */

@@ -86,5 +86,5 @@ void measure(struct pool *p, const enum side *sides, size_t n, struct times *t)
         }
     for (size_t i = 0; i < n; i++)
         for (size_t k = 0; k < parts; k++)
-            t->ns[sides[i]] += median(best[i][k]) / p->n;
+            t->ns[sides[i]] += median(best[i][k]) / p->n / shares_of(sides[i]);
 }

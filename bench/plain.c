@@ -84,6 +84,18 @@ size_t plain_read(size_t order, const uint8_t *s, size_t len, uint32_t *out)
     return count;
 }
 
+size_t plain_replace(size_t order, uint8_t *buf, size_t used, size_t place, uint32_t n)
+{
+    uint32_t row[4096];
+    size_t count = plain_read(order, buf, used, row);
+
+    row[place] = n;
+    size_t now_used = plain_write(order, row, count, buf);
+    for (size_t i = now_used; i < used; i++)
+        buf[i] = 0;
+    return now_used;
+}
+
 uint64_t plain_total(size_t order, const uint8_t *s, size_t len, size_t a, size_t b)
 {
     uint32_t row[4096];

@@ -14,10 +14,11 @@ void plain_table_start(void);
 extern uint64_t plain_F[7][PLAIN_DIGITS];
 extern uint64_t plain_first[7][PLAIN_DIGITS];
 
-/* Writing gives the number of bytes, reading the number of numbers. Putting one codeword at a bit of a buffer gives the bit after it. */
+/* Writing and replacing give the number of bytes, reading the number of numbers. Putting one codeword at a bit of a buffer gives the bit after it. */
 size_t plain_write(size_t order, const uint32_t *row, size_t count, uint8_t *out);
 size_t plain_put_codeword(size_t order, uint32_t n, uint8_t *out, size_t at);
 size_t plain_read(size_t order, const uint8_t *s, size_t len, uint32_t *out);
+size_t plain_replace(size_t order, uint8_t *buf, size_t used, size_t place, uint32_t n);
 uint64_t plain_total(size_t order, const uint8_t *s, size_t len, size_t a, size_t b);
 
 /* 001's reader of order 3 by a table, byte by byte, in one pass. */

@@ -34,6 +34,10 @@ static const struct pair pairs[] = {
     {TOTAL, PLAIN_TOTAL, {0}},
     {REPEATED_TOTAL, PLAIN_REPEATED_TOTAL, {0}},
     {TOTAL, SDSL_SUM, {0}},
+    {REPLACE_FIRST, TOTAL, {1.3, 1.3, 1.3}},
+    {REPLACE_MIDDLE, TOTAL, {1.3, 1.3, 1.3}},
+    {REPLACE_LAST, TOTAL, {1.3, 1.3, 1.3}},
+    {REPLACE_MIDDLE, PLAIN_REPLACE, {0}},
     {BUILD, PLAIN_BUILD, {[TO_256] = 1.5}},
     {BUILD, HUFF_BUILD, {0}},
     {BUILD, INT_BUILD, {0}},
@@ -273,7 +277,7 @@ static void print_growth(enum kind kind, const enum side *sides, size_t n)
 
 void report_tables(void)
 {
-    static const enum side growing[] = {READ, TABLE_READ, TOTAL, APPEND, WRITE};
+    static const enum side growing[] = {READ, TABLE_READ, TOTAL, REPLACE_MIDDLE, APPEND, WRITE};
     static const enum side indexed[] = {BUILD, EXTRACT, RANK, SELECT};
     static const enum side refused[] = {READ, TABLE_READ, TOTAL};
 
@@ -283,7 +287,7 @@ void report_tables(void)
     printf("\nThe same for the dense code, by its stoppers s:\n\n");
     print_pairs(stoppers, STOPPERS);
     printf("\n## Growth\n\nNanoseconds a call against the length of the row; order 3, numbers to 1,000.\n\n");
-    print_growth(GROWING, growing, 5);
+    print_growth(GROWING, growing, 6);
     printf("\nThe same for the index, numbers to 256:\n\n");
     print_growth(INDEXED, indexed, 4);
     for (enum kind kind = REFUSED_4; kind <= REFUSED_7; kind++) {

@@ -51,7 +51,7 @@ static void append(struct input *in, uint32_t n)
     const struct header *h = &in->shorter_header;
 
     take_off(in);
-    probe_append(in->order, in->shorter, 6 * in->count + 32, h->bits, h->count, h->total, n, answer, 6);
+    probe_append(in->order, in->shorter, ENCODING_ROOM(in->count), h->bits, h->count, h->total, n, answer, 6);
 }
 
 /* Each number of the row, in turn, is the one that is put behind the others: so there are as many of them in a part, whatever the length of its rows, and none
@@ -60,6 +60,39 @@ static void run_append(struct input *in)
 {
     for (size_t i = 0; i < in->count; i++)
         append(in, in->row[i]);
+}
+
+/* Puts a number at a place of an input's encoding, which has so many bytes, and gives how many it has then. */
+typedef size_t replacing(struct input *in, size_t used, size_t place, uint32_t n);
+
+static size_t replace(struct input *in, size_t used, size_t place, uint32_t n)
+{
+    probe_replace(in->order, in->encoding, ENCODING_ROOM(in->count), used, place, n, answer, 6);
+    return answer[2];
+}
+
+/* Another number, whose codeword has another length: half of a number has some bits less, in every order. */
+static uint32_t other_than(uint32_t n)
+{
+    return n > 1 ? n / 2 : 2;
+}
+
+/* Another number for the one at a place, and the one for the other: so the bits behind move each time, and the encoding is as it was. */
+static void there_and_back(struct input *in, replacing *call, size_t place)
+{
+    size_t used = call(in, in->used, place, other_than(in->row[place]));
+
+    call(in, used, place, in->row[place]);
+}
+
+static size_t middle_of(const struct input *in) { return in->count / 2; }
+static void run_replace_first(struct input *in) { there_and_back(in, replace, 0); }
+static void run_replace_middle(struct input *in) { there_and_back(in, replace, middle_of(in)); }
+static void run_replace_last(struct input *in) { there_and_back(in, replace, in->count - 1); }
+
+double shares_of(enum side s)
+{
+    return s == REPLACE_FIRST || s == REPLACE_MIDDLE || s == REPLACE_LAST || s == PLAIN_REPLACE ? 2 : 1;
 }
 
 static void run_extract(struct input *in)
@@ -98,6 +131,13 @@ static void plain_run_put(struct input *in)
     }
 }
 
+static size_t plain_replace_in(struct input *in, size_t used, size_t place, uint32_t n)
+{
+    result = plain_replace(in->order, in->encoding, used, place, n);
+    return result;
+}
+
+static void plain_run_replace(struct input *in) { there_and_back(in, plain_replace_in, middle_of(in)); }
 static void plain_run_extract(struct input *in) { result = plain_extract(in->order, ALPHABET, in->count, in->index, in->place, &end); }
 static void plain_run_rank(struct input *in) { result = plain_rank(in->order, ALPHABET, in->count, in->index, in->number, in->place, &end); }
 static void plain_run_select(struct input *in) { result = plain_select(in->order, ALPHABET, in->count, in->index, in->number, in->use, &end); }
@@ -176,6 +216,53 @@ static int right_append(struct input *in)
     return 1;
 }
 
+/* The header of the row, whose encoding goes to the bytes, with zeros behind it. */
+static struct header encode(const struct input *in)
+{
+    struct header h = {.count = in->count, .total = sum_of(in)};
+
+    memset(bytes, 0, ENCODING_ROOM(in->count));
+    for (size_t i = 0; i < in->count; i++)
+        h.bits = plain_put_codeword(in->order, in->row[i], bytes, h.bits);
+    return h;
+}
+
+/* Whether the last call made the encoding of the row as it is now, and left what is behind it as it was. */
+static int plain_replaced(const struct input *in)
+{
+    struct header h = encode(in);
+
+    return result == (h.bits + 7) / 8 && memcmp(in->encoding, bytes, ENCODING_ROOM(in->count)) == 0;
+}
+
+static int replaced(const struct input *in)
+{
+    struct header h = encode(in);
+
+    return proved((h.bits + 7) / 8) && answer[3] == h.bits && answer[4] == h.count && answer[5] == h.total &&
+           memcmp(in->encoding, bytes, ENCODING_ROOM(in->count)) == 0;
+}
+
+/* Whether the last run left the encoding of the row, and each of its two calls is right by itself. */
+static int right_there_and_back(struct input *in, replacing *call, int (*right)(const struct input *in), size_t place)
+{
+    uint32_t n = in->row[place];
+
+    if (!right(in))
+        return 0;
+    in->row[place] = other_than(n);
+    size_t used = call(in, in->used, place, in->row[place]);
+    int there = right(in);
+    in->row[place] = n;
+    call(in, used, place, n);
+    return there && right(in);
+}
+
+static int right_replace_first(struct input *in) { return right_there_and_back(in, replace, replaced, 0); }
+static int right_replace_middle(struct input *in) { return right_there_and_back(in, replace, replaced, middle_of(in)); }
+static int right_replace_last(struct input *in) { return right_there_and_back(in, replace, replaced, in->count - 1); }
+static int plain_right_replace(struct input *in) { return right_there_and_back(in, plain_replace_in, plain_replaced, middle_of(in)); }
+
 static int right_text(struct input *in)
 {
     static char text[200000];
@@ -215,6 +302,9 @@ const struct call calls[SIDES] = {
     [REPEATED_TOTAL] = {"repeated total", run_repeated, right_repeated},
     [HEADER] = {"header of an encoding", run_header, right_header},
     [APPEND] = {"append", run_append, right_append},
+    [REPLACE_FIRST] = {"replace at the first place", run_replace_first, right_replace_first},
+    [REPLACE_MIDDLE] = {"replace at the middle place", run_replace_middle, right_replace_middle},
+    [REPLACE_LAST] = {"replace at the last place", run_replace_last, right_replace_last},
     [WRITE] = {"write", run_write, right_encoding},
     [BUILD] = {"build", run_build, right_index},
     [EXTRACT] = {"extract", run_extract, right_number},
@@ -228,6 +318,7 @@ const struct call calls[SIDES] = {
     [PLAIN_TOTAL] = {"plain C", plain_run_total, plain_right_total},
     [PLAIN_REPEATED_TOTAL] = {"plain C", plain_run_repeated, plain_right_repeated},
     [PLAIN_PUT] = {"plain C put of one codeword", plain_run_put, plain_right_put},
+    [PLAIN_REPLACE] = {"plain C by reading and writing", plain_run_replace, plain_right_replace},
     [PLAIN_WRITE] = {"plain C writer, bit by bit", plain_run_write, plain_right_encoding},
     [PLAIN_BUILD] = {"plain C by stable partition", plain_run_build, plain_right_index},
     [PLAIN_EXTRACT] = {"the same walk in plain C", plain_run_extract, plain_right_number},

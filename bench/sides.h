@@ -1,4 +1,5 @@
-/* What is measured: each side is one call on an input (of appending, one for each number of its row), and a test that it gave the right result. */
+/* What is measured: each side is one call on an input (of appending, one for each number of its row; of replacing two), and a test that it gave the right
+   result. */
 #ifndef SIDES_H
 #define SIDES_H
 
@@ -12,6 +13,9 @@ enum side {
     REPEATED_TOTAL,
     HEADER,
     APPEND,
+    REPLACE_FIRST,
+    REPLACE_MIDDLE,
+    REPLACE_LAST,
     WRITE,
     BUILD,
     EXTRACT,
@@ -25,6 +29,7 @@ enum side {
     PLAIN_TOTAL,
     PLAIN_REPEATED_TOTAL,
     PLAIN_PUT,
+    PLAIN_REPLACE,
     PLAIN_WRITE,
     PLAIN_BUILD,
     PLAIN_EXTRACT,
@@ -54,6 +59,9 @@ struct call {
 };
 
 extern const struct call calls[SIDES];
+
+/* What a time of a side's run is divided by: 2 for replacing, which goes there and back, else 1. */
+double shares_of(enum side s);
 
 /* The number of the answer of the last call of a proved operation. */
 uint64_t answered(void);

@@ -23,6 +23,8 @@ mod ledger;
 mod listing;
 #[path = "differ/random.rs"]
 mod random;
+#[path = "differ/replacing.rs"]
+mod replacing;
 #[path = "differ/text.rs"]
 mod text;
 #[path = "differ/words.rs"]
@@ -74,6 +76,7 @@ fn fixed_codec(border: &mut Border, ledger: &mut Ledger) {
     codec.limits();
     codec.words();
     codec.appending();
+    codec.replacing();
     codec.dense();
 }
 

@@ -380,6 +380,33 @@ pub fn append(order: u64, buffer: &mut [u8], header: Header, n: u32) -> Answer<(
     Answer::yes((bytes.len() as u64, Header { bits: bits.len() as u64, count: header.count + 1, total: header.total + n as u64 }))
 }
 
+/// Replacing the number at a place of the encoding in the first `used` bytes of a buffer (paper 02's R-5): the bytes then in use, and the header then. The row
+/// is read, changed and written again; the bytes in use that it no longer reaches become zeros.
+pub fn replace(order: u64, buffer: &mut [u8], used: u64, place: u64, n: u32) -> Answer<(u64, Header)> {
+    if !(2..=6).contains(&order) {
+        return Answer::no(refusal(1));
+    }
+    if used > buffer.len() as u64 {
+        return Answer::no(refusal(2));
+    }
+    let mut row = match row_of(order, &buffer[..used as usize]) {
+        Ok(row) => row,
+        Err(refusal) => return Answer::no(refusal),
+    };
+    if place >= row.len() as u64 {
+        return Answer::no(refusal(8));
+    }
+    if n == 0 {
+        return Answer::no(refusal(3));
+    }
+    row[place as usize] = n;
+    let written = write(order, &row, buffer);
+    if written.number == 0 && written.results.0 < used {
+        buffer[written.results.0 as usize..used as usize].fill(0);
+    }
+    written
+}
+
 pub fn sum(row: &[u32]) -> u64 {
     row.iter().map(|n| *n as u64).sum()
 }

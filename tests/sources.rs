@@ -768,6 +768,59 @@ fn true_heads(s: &mut Sources) {
     }
 }
 
+// Paper 02's R-5: what decides where a sentence can be read in two ways
+const R_5: [(&str, &str); 41] = [
+    // the outcome is the strip of the changed row, with the head that writing the row and reading the strip give
+    ("replace 2 2 1 3E DE", "bytes 2, bits 13, count 5, total 8; encoding 3F 78;"),
+    ("write 2 3 1 1 2 1", "bytes 2, bits 13, count 5, total 8; encoding 3F 78;"),
+    ("header 2 3F 78", "bits 13, count 5, total 8;"),
+    ("read 2 3F 78", "count 5; row 3 1 1 2 1;"),
+    // zeros from the new end to the old, and not to that of the buffer
+    ("room 8 replace 2 0 1 24 88 08 A2 A1 16", "bytes 1, bits 2, count 1, total 1; buffer C0 00 00 00 00 00 A5 A5;"),
+    ("room 6 replace 2 0 1 24 88 08 A2 A1 16", "bytes 1, bits 2, count 1, total 1; buffer C0 00 00 00 00 00;"),
+    ("replace 2 0 1 24 88 08 A2 A1 16", "bytes 1, bits 2, count 1, total 1; encoding C0;"),
+    // codewords before the place keep their bits
+    ("replace 2 4 600 3E DE", "bytes 4, bits 27, count 5, total 610; encoding 3E D9 15 60;"),
+    ("replace 2 3 1 3E DE", "bytes 2, bits 14, count 5, total 10; encoding 3E FC;"),
+    ("room 3 replace 2 1 4 3E DE", "bytes 3, bits 17, count 5, total 14; buffer 3B B7 80;"),
+    // 2 by the buffer, and by 24,064 bytes
+    ("room 1 replace 2 0 1 3E DE", "NO 2:"),
+    ("room 2 replace 2 0 1 3E DE", "bytes 2, bits 13, count 5, total 9; buffer FB 78;"),
+    ("room 24065 replace 2 0 1 00x24064", "NO 6:"),
+    ("room 24065 replace 2 0 1 00x24065", "NO 2:"),
+    ("room 24063 replace 2 0 1 00x24064", "NO 2:"),
+    // 1, then 2, then 4 and 7 from the left, then 6
+    ("room 0 replace 7 0 1 C0", "NO 1:"),
+    ("room 0 replace 1 0 1 C0", "NO 1:"),
+    ("room 1024 replace 2 0 1 FFx1024 C0", "NO 2:"),
+    ("room 1025 replace 2 0 1 FFx1024 C0", "NO 4:"),
+    ("room 5 replace 2 0 1 A4 88 08 A2 A1 16", "NO 2:"),
+    ("replace 2 0 1 A4 88 08 A2 A1 16", "NO 7, place 0:"),
+    ("replace 2 0 4294967295 E9 22 02 28 A8 45 80", "NO 7, place 1:"),
+    ("replace 2 0 1 FFx1024 A4 88 08 A2 A1 16", "NO 4:"),
+    ("replace 2 0 1 A4 88 08 A2 A1 17 FFx1024 80", "NO 7, place 0:"),
+    ("replace 2 0 1 FFx1024 C0 00", "NO 4:"),
+    ("replace 2 0 1 A4 88 08 A2 A1 16 00", "NO 7, place 0:"),
+    ("replace 2 9 0 E0", "NO 6:"),
+    // then 8, 3, 5: 5 by the whole buffer, whatever is in use
+    ("replace 2 5 0 3E DE", "NO 8:"),
+    ("replace 2 5 1 3E DE", "NO 8:"),
+    ("replace 2 4 0 3E DE", "NO 3, place 0:"),
+    ("replace 2 0 1", "NO 8:"),
+    ("room 1 replace 2 1 4294967295 C0", "NO 8:"),
+    ("room 1 replace 2 0 0 C0", "NO 3, place 0:"),
+    ("room 1 replace 2 0 9 C0", "bytes 1, bits 6, count 1, total 9; buffer 8C;"),
+    ("room 5 replace 2 0 4294967295 C0", "NO 5:"),
+    ("room 6 replace 2 0 4294967295 C0", "bytes 6, bits 47, count 1, total 4294967295; buffer 24 88 08 A2 A1 16;"),
+    // a full row can be changed
+    ("room 1024 replace 2 4095 1 FFx1024", "bytes 1024, bits 8192, count 4096, total 4096; buffer FFx1024;"),
+    ("room 1024 replace 2 4095 2 FFx1024", "NO 5:"),
+    ("room 1025 replace 2 4095 2 FFx1024", "bytes 1025, bits 8193, count 4096, total 4097;"),
+    // a refusal writes nothing
+    ("room 1 replace 2 0 4294967295 C0", "NO 5:"),
+    ("room 1 replace 2 0 4294967295 C0", "; buffer C0;"),
+];
+
 // Paper 01's listing
 const LISTING: &str = "\
 PLACE     NUMBER BITS           TOTAL
@@ -803,7 +856,7 @@ fn listings(s: &mut Sources) {
 }
 
 fn papers(s: &mut Sources) {
-    for (request, part) in PAPER_01.iter().chain(&READ_AS).chain(&R_1).chain(&R_2).chain(&R_4) {
+    for (request, part) in PAPER_01.iter().chain(&READ_AS).chain(&R_1).chain(&R_2).chain(&R_4).chain(&R_5) {
         s.says(request, part);
     }
     for (alphabet, visits) in [(3, &[1, 2, 2][..]), (5, &[2, 2, 3, 2, 3])] {

@@ -33,7 +33,7 @@ enum Before {
 type Request = fn(Words, Before) -> Option<String>;
 
 /// Each request: its usage, which begins with its name, and its answer.
-const REQUESTS: [(&str, Request); 19] = [
+const REQUESTS: [(&str, Request); 20] = [
     ("codewords ORDER ROW", codewords),
     ("write ORDER ROW", write),
     ("read ORDER BYTES", read),
@@ -43,6 +43,7 @@ const REQUESTS: [(&str, Request); 19] = [
     ("dense-read STOPPERS BYTES", dense_read),
     ("header ORDER BYTES", header),
     ("append ORDER NUMBER BITS COUNT TOTAL BYTES", append),
+    ("replace ORDER PLACE NUMBER BYTES", replace),
     ("total ORDER FROM TO BYTES", total),
     ("repeated-total ORDER REPEATS SHARED BYTES", repeated_total),
     ("build ORDER ALPHABET ROW", build),
@@ -192,7 +193,7 @@ impl Before {
 fn reason(number: u64) -> &'static str {
     match number {
         1 => "the order is not 2 to 6",
-        2 => "more bytes than an encoding can have",
+        2 => "more bytes than an encoding can have, or more in use than the buffer has",
         3 => "a number is 0",
         4 => "more than 4096 numbers",
         5 => "the output is too short, or more than 192512 bits would be in use",
@@ -250,7 +251,7 @@ fn told(header: &Header) -> String {
     format!("bits {}, count {}, total {}", header.bits, header.count, header.total)
 }
 
-/// What writing and appending tell: the bytes in use, and the header.
+/// What writing, appending and replacing tell: the bytes in use, and the header.
 fn encoded((bytes, header): &(u64, Header)) -> String {
     format!("bytes {bytes}, {}", told(header))
 }
@@ -312,7 +313,7 @@ fn header(mut words: Words, before: Before) -> Option<String> {
     Some(plain(&a, told))
 }
 
-/// The buffer of an append, which begins with these bytes: six bytes longer, or of the room that the line has.
+/// The buffer of an append or a replacement, which begins with these bytes: six bytes longer, or of the room that the line has.
 fn buffer(bytes: Vec<u8>, before: Before) -> Option<Output<u8>> {
     match before {
         Before::Nothing => Some(Output { elements: [bytes, vec![BYTE_BEFORE; 6]].concat(), whole: None }),
@@ -330,6 +331,16 @@ fn append(mut words: Words, before: Before) -> Option<String> {
     let header = Header { bits: words.number()?, count: words.number()?, total: words.number()? };
     let mut output = buffer(words.bytes()?, before)?;
     let a = model::append(order, &mut output.elements, header, n);
+    Some(shown(&a, encoded, &output, "encoding", a.results.0))
+}
+
+fn replace(mut words: Words, before: Before) -> Option<String> {
+    let (order, place, n) = (words.number()?, words.number()?, words.number_32()?);
+    let bytes = words.bytes()?;
+    // all that are given are in use, also where the room is for fewer
+    let used = bytes.len() as u64;
+    let mut output = buffer(bytes, before)?;
+    let a = model::replace(order, &mut output.elements, used, place, n);
     Some(shown(&a, encoded, &output, "encoding", a.results.0))
 }
 

@@ -11,10 +11,10 @@ const MOST_COUNT: u64 = model::MAX_COUNT as u64;
 const MOST_TOTAL: u64 = model::MOST_TOTAL;
 
 /// Past every limit by far. In some, the low bits alone would be small, and in some a number more would make them so.
-const FAR: [u64; 9] = [1 << 32, (1 << 32) + 1, 1 << 61, 1 << 63, (1 << 63) + 2, u64::MAX - u32::MAX as u64, u64::MAX - 3, u64::MAX - 1, u64::MAX];
+pub const FAR: [u64; 9] = [1 << 32, (1 << 32) + 1, 1 << 61, 1 << 63, (1 << 63) + 2, u64::MAX - u32::MAX as u64, u64::MAX - 3, u64::MAX - 1, u64::MAX];
 
 /// Bytes that are anything, or all ones, or all zeros.
-fn content(random: &mut Random, len: usize) -> Vec<u8> {
+pub fn content(random: &mut Random, len: usize) -> Vec<u8> {
     match random.below(4) {
         0 => vec![0xFF; len],
         1 => vec![0x00; len],
@@ -128,13 +128,7 @@ impl Codec<'_> {
 
     /// The last numbers of rows of 4,096, appended to what writing the others gave; then the row is full.
     fn filled(&mut self, order: usize) {
-        for kind in 0..4 {
-            let row: Vec<u32> = match kind {
-                0 => vec![1; model::MAX_COUNT],
-                1 => vec![u32::MAX; model::MAX_COUNT],
-                2 => (0..model::MAX_COUNT).map(|_| 1 + self.random.below(3) as u32).collect(),
-                _ => (0..model::MAX_COUNT).map(|_| encodings::number(self.random, order)).collect(),
-            };
+        for row in encodings::full_rows(self.random, order) {
             let fewer = model::MAX_COUNT - 3;
             let need = model::encoding(order, &row).len();
             let room = need + self.random.below(3);

@@ -1,4 +1,4 @@
-//! Writing, the two readers, the dense code, headers, appending and totals beside the model.
+//! Writing, the two readers, the dense code, headers, appending, replacing and totals beside the model.
 
 use crate::border::{told, Border, Called, Told, TOLD};
 use crate::encodings;
@@ -16,8 +16,8 @@ fn encoded(a: &Answer<(u64, Header)>) -> Told {
     told(a.number, a.place, &[bytes, header.bits, header.count, header.total])
 }
 
-/// What writing or appending leaves: the number of its answer, the bytes in use, the header, and the output. The library's answer is held to the model's
-/// before.
+/// What writing, appending or replacing leaves: the number of its answer, the bytes in use, the header, and the output. The library's answer is held to the
+/// model's before.
 #[derive(PartialEq, Debug)]
 pub struct Encoded {
     pub number: u64,
@@ -45,6 +45,23 @@ fn append_answer(number: u64, order: usize, buf: &[u8], header: Header, n: u32) 
         5 => passed(header.bits + model::codeword(order, n as u128).len() as u64),
         _ => Vec::new(),
     };
+    decided(number, &reasons)
+}
+
+/// A replacement's answer, and what decided it: of 2 the limit that is passed, where it is one alone; where all went well, whether fewer bytes, as many or more
+/// are then in use.
+fn replace_answer(a: &Answer<(u64, Header)>, buf: &[u8], used: usize) -> String {
+    let bytes = a.results.0 as usize;
+    let reasons = match a.number {
+        0 => vec![("fewer", bytes < used), ("as many", bytes == used), ("more", bytes > used)],
+        2 => vec![("buffer", used > buf.len()), ("bytes", used as u64 > model::MOST_BYTES)],
+        _ => Vec::new(),
+    };
+    decided(a.number, &reasons)
+}
+
+/// An answer with the reason that holds, where it is one alone.
+fn decided(number: u64, reasons: &[(&str, bool)]) -> String {
     let reasons: Vec<&str> = reasons.iter().filter(|(_, holds)| *holds).map(|(reason, _)| *reason).collect();
     match reasons[..] {
         [one] => format!("{number} ({one})"),
@@ -135,6 +152,22 @@ impl Codec<'_> {
             self.ledger.same("a header after a true one", Some(appended.header), has, arguments);
         }
         appended
+    }
+
+    /// .. The header that it answers is a true one: it is what the bytes then in use have.
+    pub fn replace(&mut self, order: usize, buf: &[u8], used: usize, place: usize, n: u32) -> Encoded {
+        let called = self.border.replace(order, buf, used, place, n);
+        let mut output = buf.to_vec();
+        let a = model::replace(order as u64, &mut output, used as u64, place as u64, n);
+        let answer = replace_answer(&a, buf, used);
+        let arguments = || format!("replace(order {order}, buf {}, used {used}, place {place}, n {n})", bytes(buf));
+        self.ledger.compare("replace", &answer, &called, encoded(&a), &output, arguments);
+        let replaced = Encoded::new(&a, called);
+        if a.number == 0 {
+            let has = self.header(order, &replaced.output[..replaced.bytes]);
+            self.ledger.same("a header after replacing", Some(replaced.header), has, arguments);
+        }
+        replaced
     }
 
     pub fn total(&mut self, order: usize, s: &[u8], from: usize, to: usize) {
@@ -242,6 +275,7 @@ impl Codec<'_> {
         let shared = self.random.around(model::sum(&row) as usize) as u64;
         self.repeated_total(order, &s, repeats, shared);
         self.header(order, &s);
+        self.replace_case(order, &s, count);
         self.append_case(order, made, s);
     }
 
@@ -347,6 +381,7 @@ impl Codec<'_> {
             self.repeated_total(order, &s, 10_000, 0);
             self.repeated_total(order, &s, 10_000, u64::MAX);
             self.header(order, &s);
+            self.replace(order, &s, s.len(), 0, 1);
         }
     }
 }

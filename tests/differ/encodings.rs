@@ -36,6 +36,13 @@ pub fn row(random: &mut Random, order: usize) -> Vec<u32> {
     }
 }
 
+/// Rows of 4,096: ones, the largest numbers, small ones, and any.
+pub fn full_rows(random: &mut Random, order: usize) -> [Vec<u32>; 4] {
+    let small = (0..model::MAX_COUNT).map(|_| 1 + random.below(3) as u32).collect();
+    let any = (0..model::MAX_COUNT).map(|_| number(random, order)).collect();
+    [vec![1; model::MAX_COUNT], vec![u32::MAX; model::MAX_COUNT], small, any]
+}
+
 /// A row that may be too long or have zeros.
 pub fn row_with_faults(random: &mut Random, order: usize) -> Vec<u32> {
     let mut row = row(random, order);

@@ -75,6 +75,7 @@ impl Codec<'_> {
         self.read(order, s, &[7; 9]);
         self.total(order, s, 0, 1);
         self.header(order, s);
+        self.replace(order, &[s, &[0xA5; 2]].concat(), s.len(), 0, 600);
         if order == 3 {
             self.table_read(s, &[7; 6]);
             self.table_read_bytes(s, &[7; 22]);
@@ -92,6 +93,9 @@ impl Codec<'_> {
                 self.read(order, &s, &vec![7; count]);
                 self.total(order, &s, 0, count);
                 self.header(order, &s);
+                for n in [1, 600] {
+                    self.replace(order, &[first, second, end, 0xA5, 0xA5], 3, count / 2, n);
+                }
                 if order == 3 {
                     self.table_read(&s, &vec![7; count]);
                     self.table_read_bytes(&s, &vec![7; 4 * count + 3]);

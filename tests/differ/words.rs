@@ -41,7 +41,7 @@ fn of_length(random: &mut Random, m: usize, length: usize, digits: Digits) -> Ve
 }
 
 /// Codewords of so many bits together, none or at least m, and each of at most so many, at least twice m. What is left over comes first.
-fn row(random: &mut Random, m: usize, bits: usize, longest: usize) -> Vec<bool> {
+pub fn row(random: &mut Random, m: usize, bits: usize, longest: usize) -> Vec<bool> {
     let mut lengths = Vec::new();
     let mut left = bits;
     while left > 0 {
@@ -108,10 +108,13 @@ impl Codec<'_> {
         let total = row.map_or(0, |row| model::sum(&row));
         let shared = self.random.around(total as usize) as u64;
         self.repeated_total(order, s, repeats, shared);
+        let n = encodings::number(self.random, order);
+        let longer = [s, &[0xA5; 8]].concat();
         if let Some(header) = self.header(order, s) {
-            let n = encodings::number(self.random, order);
-            self.append(order, &[s, &[0xA5; 8]].concat(), header, n);
+            self.append(order, &longer, header, n);
         }
+        let place = self.random.below(count + 1);
+        self.replace(order, &longer, s.len(), place, n);
     }
 
     /// Bits that end in a codeword: as they are, and before two words and more of small numbers.

@@ -1,6 +1,6 @@
 // What every call says: why it refuses, how many there are of something, and the limits that it checks; and how every reader answers.
 ghost use mathlib.Core.Path.{_≡_};
-ghost use Prim.Native.Nat.{min};
+ghost use Prim.Native.Nat.{min, max};
 ghost use lib.ListN.{length};
 ghost use Rattle.calls.specs.Refusals.{reason};
 ghost use Rattle.calls.specs.Limits.{isOrder, isNumber};
@@ -12,6 +12,8 @@ pub enum Refusal {
     BadOrder,
     // 2: an encoding has more bytes than one can have.
     TooManyBytes,
+    // 2: more bytes are in use than the buffer has.
+    PastBuffer,
     // 3: the number at this place is 0, or above the limit of a row.
     BadNumber(usize),
     // 4: a row has more than 4,096 numbers.
@@ -74,6 +76,7 @@ pub fn reason(r: Refusal) -> Numbered
     match r {
         Refusal::BadOrder => with_place(1, 0),
         Refusal::TooManyBytes => with_place(2, 0),
+        Refusal::PastBuffer => with_place(2, 0),
         Refusal::BadNumber(place) => with_place(3, place),
         Refusal::TooManyNumbers => with_place(4, 0),
         Refusal::TooManyCodewords => with_place(4, 0),
@@ -99,10 +102,10 @@ pub fn reason(r: Refusal) -> Numbered
 }
 
 // A refusal in words, by its number. Which is given when, papers 01 and 02 say; 13 is the listing program's alone.
-pub const REFUSALS: [u8; 710] = *b"\
+pub const REFUSALS: [u8; 746] = *b"\
 \n\
 the order is not 2 to 6\n\
-more bytes than an encoding can have\n\
+more bytes than an encoding can have, or more in use than the buffer has\n\
 a number is 0\n\
 more than 4096 numbers\n\
 the output is too short, or more than 192512 bits would be in use\n\
@@ -152,6 +155,13 @@ pub fn least(a: usize, b: usize) -> usize
     ensures { λ r. ⌜ r ≡ min a b ⌝ }
 {
     if a < b { a } else { b }
+}
+
+// The larger of two counts.
+pub fn most(a: usize, b: usize) -> usize
+    ensures { λ r. ⌜ r ≡ max a b ⌝ }
+{
+    if a < b { b } else { a }
 }
 
 // A number of 32 bits as one of 64.

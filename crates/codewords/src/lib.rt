@@ -191,7 +191,7 @@ pub fn coded(
     Word { bits, len }
 }
 
-// The codeword of one number, by tables of its own, for whoever puts no more than one. Requires: an order from 2 to 6 and a legal number, which appending checks.
+// The codeword of one number, by tables of its own, for whoever puts no more than one. Requires: an order from 2 to 6 and a legal number, which appending and replacing check.
 pub fn codeword(order: usize, n: u64) -> Word
     requires { ⌜ Order order × (1 ≤ n) × (n ≤ maxNumber) ⌝ }
     ensures { λ r. ⌜ Codes order n r ⌝ }

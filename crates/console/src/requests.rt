@@ -12,7 +12,7 @@ pub fn numbers_of(k: usize) -> usize {
     if k == texts::BUILD || k == texts::TABLE_VALUE {
         return 2;
     }
-    if k == texts::TOTAL || k == texts::REPEATED_TOTAL {
+    if k == texts::REPLACE || k == texts::TOTAL || k == texts::REPEATED_TOTAL {
         return 3;
     }
     if k == texts::EXTRACT {
@@ -38,6 +38,11 @@ pub fn has_no_list(k: usize) -> bool {
     k == texts::LISTING_TEXT || k == texts::HELP_ITSELF
 }
 
+// Whether the bytes that are given are changed: the output begins with them.
+pub fn is_changed(k: usize) -> bool {
+    k == texts::APPEND || k == texts::REPLACE
+}
+
 // What a request's operation writes to: a row, bytes, or nothing.
 pub fn writes_row(k: usize) -> bool {
     k == texts::READ || k == texts::TABLE_READ || k == texts::DENSE_READ
@@ -47,7 +52,7 @@ pub fn writes_bytes(k: usize) -> bool {
     k == texts::WRITE
         || k == texts::TABLE_READ_BYTES
         || k == texts::DENSE_WRITE
-        || k == texts::APPEND
+        || is_changed(k)
         || k == texts::BUILD
 }
 
@@ -55,6 +60,9 @@ pub fn writes_bytes(k: usize) -> bool {
 pub fn is_fit(k: usize, n: &[u64; 5]) -> bool {
     if k == texts::APPEND || k == texts::BUILD || k == texts::EXTRACT {
         return n[1] <= 4294967295;
+    }
+    if k == texts::REPLACE {
+        return n[2] <= 4294967295;
     }
     if k == texts::RANK || k == texts::SELECT {
         return n[1] <= 4294967295 && n[3] <= 4294967295;
@@ -95,6 +103,11 @@ fn append(n: &[u64; 5], out: &mut [u8]) -> Answer {
     answers::of_encoding(appender::append(n[0] as usize, out, header, narrow(n[1])))
 }
 
+fn replace(n: &[u64; 5], used: usize, out: &mut [u8]) -> Answer {
+    let place = n[1] as usize;
+    answers::of_encoding(replacer::replace(n[0] as usize, out, used, place, narrow(n[2])))
+}
+
 pub fn into_bytes(k: usize, n: &[u64; 5], row: &[u32], s: &[u8], out: &mut [u8]) -> Answer {
     if k == texts::WRITE {
         return write(n[0], row, out);
@@ -107,6 +120,9 @@ pub fn into_bytes(k: usize, n: &[u64; 5], row: &[u32], s: &[u8], out: &mut [u8])
     }
     if k == texts::APPEND {
         return append(n, out);
+    }
+    if k == texts::REPLACE {
+        return replace(n, s.len(), out);
     }
     answers::of_count(table_decoder::read_bytes(s, out))
 }

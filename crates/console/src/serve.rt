@@ -14,8 +14,8 @@ const BUFFER_BYTES: usize = say::MAX_BYTES;
 // The most numbers that a request has room for.
 const MAX_NUMBERS: usize = 4100;
 
-// An appended codeword has at most 47 bits.
-const APPENDED: usize = 6;
+// An encoding grows by a codeword of at most 47 bits.
+const GROWN: usize = 6;
 
 // How much room an output has: enough for every answer, or exactly so much.
 enum Room {
@@ -130,18 +130,18 @@ fn bytes_in(
     bitmaps(out, at, r.k, a.first, buf)
 }
 
-// The buffer of an append begins with its bytes.
+// A buffer whose bytes are changed begins with them.
 fn begin(k: usize, s: &[u8], buf: &mut [u8]) {
-    if k == texts::APPEND {
+    if requests::is_changed(k) {
         say::text(buf, 0, s);
     }
 }
 
 fn into_bytes(out: &mut [u8], r: Request, n: &[u64; 5], row: &[u32], s: &[u8]) -> usize {
-    let mut buf = [0xA5u8; BUFFER_BYTES + APPENDED];
+    let mut buf = [0xA5u8; BUFFER_BYTES + GROWN];
     begin(r.k, s, &mut buf);
     let size = r.size;
-    if size > BUFFER_BYTES + APPENDED {
+    if size > BUFFER_BYTES + GROWN {
         return 0;
     }
     bytes_in(out, r, n, row, s, &mut buf[0..size])
@@ -249,8 +249,8 @@ fn exactly(k: usize, n: u64) -> usize {
 }
 
 fn enough(k: usize, len: usize) -> usize {
-    if k == texts::APPEND {
-        return wrapping_add_usize(len, APPENDED);
+    if requests::is_changed(k) {
+        return wrapping_add_usize(len, GROWN);
     }
     if requests::writes_row(k) {
         MAX_NUMBERS
@@ -293,7 +293,7 @@ fn listed(out: &mut [u8], k: usize, room: Room, n: &[u64; 5], line: &[u8], at: u
     if bytes > BUFFER_BYTES {
         return 0;
     }
-    if r.size > BUFFER_BYTES + APPENDED {
+    if r.size > BUFFER_BYTES + GROWN {
         return 0;
     }
     with_list(out, r, n, &list[0..numbers], &s[0..bytes])

@@ -1,4 +1,4 @@
-// Reading an encoding of order 2 to 6: by words as far as they go, and then codeword by codeword; and the sums that totals and appending want of it.
+// Reading an encoding of order 2 to 6: by words as far as they go, and then codeword by codeword; and what totals, headers and replacing want to know of it.
 ghost use mathlib.Core.Path.{_≡_};
 ghost use Prim.Native.Nat.{_*_, _≤_, min};
 ghost use lib.Dec.{ltb};

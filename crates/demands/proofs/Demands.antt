@@ -6,6 +6,7 @@ use Rattle.demands.proofs.RoundTrip.{round-trip}
 use Rattle.demands.proofs.Readers.{two-readers}
 use Rattle.demands.proofs.Totals.{totals-demand}
 use Rattle.demands.proofs.Headers.{header-demand, header-examples}
+use Rattle.demands.proofs.Replacing.{replace-demand, replace-examples}
 use Rattle.demands.proofs.Dense.{dense-demand}
 use Rattle.demands.proofs.Index.{index-demand, built-answers}
 use Rattle.demands.proofs.Listing.{listing-demand}
@@ -20,6 +21,8 @@ demands-hold =
       round-trip = round-trip;
       headers = header-demand;
       header-examples = header-examples;
+      replacing = replace-demand;
+      replace-examples = replace-examples;
       totals = totals-demand;
       index = index-demand;
       built = built-answers;

@@ -10,7 +10,7 @@ use Rattle.bits.specs.Bits.{Bytes, bitOf, wordBits, byteCount, unpack, wordOf, 
 use Rattle.bits.proofs.Packing.{bytes-take}
 use Rattle.fibonacci.specs.Code.{past, F, value, first, number, size, digits, codeword}
 use Rattle.fibonacci.specs.Encoding.{rowBits, encoding, parseAfter, parse, numbers}
-use Rattle.fibonacci.proofs.Rows.{bits-append}
+use Rattle.fibonacci.proofs.Rows.{bits-append, encoding-length}
 use Rattle.calls.specs.Calls.{Outcome, accepted}
 use Rattle.calls.specs.Limits.{isOrder, Order, isNumber, isOutside}
 use Rattle.calls.specs.Reading.{checkFinished, contents, decode}
@@ -21,7 +21,7 @@ use Rattle.headers.specs.Headers.{header, headerOf, noHeader, capacity, isBadHe
 use Rattle.headers.proofs.Headers.{is-good}
 use Rattle.header_reader.specs.Reading.{readHeader}
 use Rattle.encoder.specs.Writing.{write, writeInto}
-use Rattle.encoder.proofs.Writing.{writing, bytes-are, write-is}
+use Rattle.encoder.proofs.Writing.{writing, write-is}
 use Rattle.appender.specs.Appending.{append, appendInto}
 use Rattle.appender.proofs.Appending.{Appendable, append-accepts}
 use Rattle.demands.specs.Headers.{reached, IsTrue, rowOf, appendAll, HeaderDemand, HeaderExamples}
@@ -33,7 +33,7 @@ use Rattle.demands.proofs.Truth.{read-header, header-is, bytes-reached,
 -- a row's encoding is no longer than that of a row that it begins
 encoding-grows : (m : ℕ) (row ns : List ℕ) → length (encoding m row) ≤ length (encoding m (row ++ ns))
 encoding-grows m row ns =
-    omega (arith, bytes-are m row, bytes-are m (row ++ ns), ap length (bits-append m row ns), length-append (rowBits m row) (rowBits m ns))
+    omega (arith, encoding-length m row, encoding-length m (row ++ ns), ap length (bits-append m row ns), length-append (rowBits m row) (rowBits m ns))
 
 -- a row that begins one that is written is written too
 begin-writable : (m : ℕ) (row ns : List ℕ) (room : ℕ) → Writable (writing m (row ++ ns)) room → Writable (writing m row) room
@@ -58,7 +58,7 @@ module _ (m : ℕ) (row before : List ℕ) (n : ℕ) (w : Writable (writing m (r
   front-append =
       append-accepts m (length (front m row before)) (headerOf m row) n front-appendable
       ∙ ap (λ (g : Header). accepted (byteCount (g .bits), g)) (extended-is m row n)
-      ∙ ap (λ (k : ℕ). accepted (k, headerOf m (row ++ (n ∷ [])))) (sym (bytes-are m (row ++ (n ∷ []))))
+      ∙ ap (λ (k : ℕ). accepted (k, headerOf m (row ++ (n ∷ [])))) (sym (encoding-length m (row ++ (n ∷ []))))
 
   front-into : appendInto m (front m row before) (headerOf m row) n ≡ front m (row ++ (n ∷ [])) before
   front-into =
@@ -114,7 +114,7 @@ appended-all m before ns h bytes g b e w =
 
 -- ## All of it
 
-read-true : (m : ℕ) (s behind : List ℕ) (h : Header) → readHeader m s ≡ accepted h → IsTrue m (s ++ behind) h
+pub read-true : (m : ℕ) (s behind : List ℕ) (h : Header) → readHeader m s ≡ accepted h → IsTrue m (s ++ behind) h
 read-true m s behind h e =
     ap (λ (k : ℕ). readHeader m (take k (s ++ behind))) (bytes-reached m s h e) ∙ ap (readHeader m) (take-append-seam s behind) ∙ e
 

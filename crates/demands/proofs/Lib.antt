@@ -4,6 +4,7 @@ pub mod Readers
 pub mod Totals
 pub mod Truth
 pub mod Headers
+pub mod Replacing
 pub mod Dense
 pub mod Index
 pub mod Listing

@@ -16,7 +16,7 @@ use Rattle.bits.proofs.Bytes.{unpack-length, unpack-take}
 use Rattle.codes.specs.Parse.{rest}
 use Rattle.fibonacci.specs.Code.{number, codeword}
 use Rattle.fibonacci.specs.Encoding.{rowBits, encoding, parse, numbers}
-use Rattle.fibonacci.proofs.Rows.{bits-snoc, numbers-bits, encoding-read, bits-few}
+use Rattle.fibonacci.proofs.Rows.{bits-snoc, numbers-bits, encoding-length, encoding-read, bits-few}
 use Rattle.calls.specs.declared.Refusal.the-variants.{BadOrder}
 use Rattle.calls.specs.Calls.{accepted}
 use Rattle.calls.specs.Limits.{isOrder, Order, isNumber, Legal, maxNumber, maxCount}
@@ -33,7 +33,7 @@ use Rattle.totals.specs.Totals.{total}
 use Rattle.totals.proofs.Totals.{row-most}
 use Rattle.header_reader.specs.Reading.{readHeader}
 use Rattle.encoder.specs.Writing.{write, writeInto}
-use Rattle.encoder.proofs.Writing.{writing, bytes-are, write-is, write-accepts}
+use Rattle.encoder.proofs.Writing.{writing, write-is, write-accepts}
 use Rattle.appender.specs.Appending.{extended, append, appendInto}
 use Rattle.appender.proofs.Appending.{Appendable, append-is, append-accepts}
 use Rattle.demands.specs.Headers.{reached, IsTrue, rowOf}
@@ -163,7 +163,7 @@ module _ (m : ℕ) (before : List ℕ) (h : Header) (n : ℕ) (e : IsTrue m befo
 
   same-answer : _≡_ {A = ℕ × Header} (byteCount (extended m h n .bits), extended m h n) (length (encoding m longer), headerOf m longer)
   same-answer =
-      let b : byteCount (extended m h n .bits) ≡ length (encoding m longer) = ap byteCount longer-bits ∙ sym (bytes-are m longer) in
+      let b : byteCount (extended m h n .bits) ≡ length (encoding m longer) = ap byteCount longer-bits ∙ sym (encoding-length m longer) in
       let g = extended-true in
       cc
 
@@ -174,7 +174,7 @@ module _ (m : ℕ) (before : List ℕ) (h : Header) (n : ℕ) (e : IsTrue m befo
         asked = a .asked;
         count = omega (arith, longer-count, a .count);
         legal = all-append (λ k. isNumber maxNumber k ≡ true) (rowOf m before h) (n ∷ []) (true-legal m before h e .1) (a .legal, tt);
-        fits = omega (arith, a .fits, capacity-most (length before), bytes-are m longer, longer-bits);
+        fits = omega (arith, a .fits, capacity-most (length before), encoding-length m longer, longer-bits);
       }
 
   pub appendable : Writable (writing m longer) (length before) → Appendable m (length before) h n
@@ -185,7 +185,7 @@ module _ (m : ℕ) (before : List ℕ) (h : Header) (n : ℕ) (e : IsTrue m befo
         legal = legal-last (rowOf m before h) n (w .legal);
         count = omega (arith, longer-count, w .count);
         fits =
-            capacity-least (length before) (extended m h n .bits) (omega (arith, w .fits, bytes-are m longer, longer-bits))
+            capacity-least (length before) (extended m h n .bits) (omega (arith, w .fits, encoding-length m longer, longer-bits))
             (omega (arith, longer-bits, bits-few m longer (true-order m before h e) (w .legal), w .count));
       }
 
@@ -212,7 +212,7 @@ module _ (m : ℕ) (before : List ℕ) (h : Header) (n : ℕ) (e : IsTrue m befo
 module _ (m : ℕ) (row before : List ℕ) (w : Writable (writing m row) (length before)) where
   reached-front : reached (front m row before) (headerOf m row) ≡ encoding m row
   reached-front =
-      ap (λ (k : ℕ). take k (front m row before)) (sym (bytes-are m row)) ∙ take-append-seam (encoding m row) (drop (length (encoding m row)) before)
+      ap (λ (k : ℕ). take k (front m row before)) (sym (encoding-length m row)) ∙ take-append-seam (encoding m row) (drop (length (encoding m row)) before)
 
   pub true-front : IsTrue m (front m row before) (headerOf m row)
   true-front =

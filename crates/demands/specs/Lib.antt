@@ -3,6 +3,7 @@ pub mod RoundTrip
 pub mod Readers
 pub mod Totals
 pub mod Headers
+pub mod Replacing
 pub mod Dense
 pub mod Index
 pub mod Listing

@@ -7,9 +7,8 @@ use native.Mathlib.Omega.{arith}
 use lib.ListN.{length}
 use Rattle.bits.specs.Bits.{Bytes, byteCount, unpack}
 use Rattle.bits.specs.Leaves.{putAt}
-use Rattle.bits.proofs.Packing.{pack-length}
 use Rattle.bits.proofs.Put.{put-packed}
-use Rattle.fibonacci.proofs.Rows.{bits-few}
+use Rattle.fibonacci.proofs.Rows.{encoding-length, bits-few}
 use Rattle.fibonacci.specs.Encoding.{rowBits, encoding}
 use Rattle.calls.specs.declared.Refusal.{Refusal}
 use Rattle.calls.specs.declared.Refusal.the-variants.{BadOrder, BadNumber, TooManyNumbers, NoRoom}
@@ -21,11 +20,6 @@ use Rattle.headers.specs.Headers.{headerOf}
 use Rattle.calls.proofs.Writing.{Write, Writable, written-is, written-accepts, written-asked, written-count, written-number, written-room}
 use Rattle.codeword_writer.specs.Leaves.{Fits}
 use Rattle.encoder.specs.Writing.{write, writeInto}
-
--- the bytes of a row's encoding, by its bits
-pub bytes-are : (m : ℕ) (row : List ℕ) → length (encoding m row) ≡ byteCount (length (rowBits m row))
-unfolding encoding
-bytes-are m row = pack-length (rowBits m row)
 
 abbrev pub writing : ℕ → List ℕ → Write (ℕ × Header)
 writing m row =
@@ -63,7 +57,7 @@ module _ (m : ℕ) (row : List ℕ) (room : ℕ) (o : isOrder m ≡ true) where
       measured = let x = each-accepted BadNumber maxNumber 0 row _ h (sym e) in (x .0, accepted-one (x .1))
 
       bytes : length (encoding m row) ≡ byteCount (h .bits)
-      bytes = bytes-are m row ∙ ap (λ (h : Header). byteCount (h .bits)) (measured .1)
+      bytes = encoding-length m row ∙ ap (λ (h : Header). byteCount (h .bits)) (measured .1)
 
       pub bits-most : h .bits ≤ 47 * maxCount
       bits-most = omega (arith, ap (λ (h : Header). h .bits) (measured .1), bits-few m row (order-is m o) (measured .0))
@@ -99,7 +93,7 @@ module _ (m : ℕ) (row before : List ℕ) where
     pub write-asks : Fits m row bytes (length before)
     write-asks =
         let x = write-is m row (length before) bytes h (sym e) in
-        record { count = x .0 .count; legal = x .0 .legal; bytes-are = x .1 ∙ bytes-are m row; within = omega (arith, x .0 .fits, x .1) }
+        record { count = x .0 .count; legal = x .0 .legal; bytes-are = x .1 ∙ encoding-length m row; within = omega (arith, x .0 .fits, x .1) }
 
     pub write-put : (after : List ℕ) → Bytes before → Bytes after → unpack after ≡ putAt 0 (rowBits m row) (unpack before) → after ≡ writeInto m row before
     unfolding encoding

@@ -6,8 +6,8 @@ use mathlib.Core.Logic.{_↔_}
 use Prim.Native.Nat.{ℕ, zero, suc, _*_, _≤_}
 use native.Mathlib.Omega.{arith}
 use lib.ListN.{length, replicate, length-append}
-use Rattle.bits.specs.Bits.{unpack, padding}
-use Rattle.bits.proofs.Packing.{unpack-pack}
+use Rattle.bits.specs.Bits.{byteCount, unpack, padding}
+use Rattle.bits.proofs.Packing.{unpack-pack, pack-length}
 use Rattle.calls.specs.Limits.{Order, Legal, maxNumber}
 use Rattle.calls.proofs.Checks.{number-is}
 use Rattle.codes.specs.Rows.{Positive}
@@ -60,6 +60,11 @@ bits-begin m a b p = codes.rows-begin (is-code m p) a b
 zeros-rest : (m k : ℕ) → 1 ≤ m → Rest m (replicate k false)
 zeros-rest m zero p = unfold runs in refl
 zeros-rest m (suc k) p = runs-false m (replicate k false) p ∙ zeros-rest m k p
+
+-- the bytes of an encoding
+pub encoding-length : (m : ℕ) (row : List ℕ) → length (encoding m row) ≡ byteCount (length (rowBits m row))
+unfolding encoding
+encoding-length m row = pack-length (rowBits m row)
 
 pub encoding-parse : (m : ℕ) (row : List ℕ) → 1 ≤ m → Positive row
     → parse m (unpack (encoding m row)) ≡ parsed (map (codeword m) row) (replicate (padding (length (rowBits m row))) false)

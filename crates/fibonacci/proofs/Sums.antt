@@ -10,7 +10,7 @@ use Rattle.calls.proofs.Checks.{number-is}
 use Rattle.calls.specs.Limits.{Legal, maxNumber}
 
 module _ (limit : ℕ) (top : limit ≤ maxNumber) where
-  sum-most : (row : List ℕ) → Legal limit row → sum row ≤ maxNumber * length row
+  pub sum-most : (row : List ℕ) → Legal limit row → sum row ≤ maxNumber * length row
   sum-most [] a = omega arith
   sum-most (n ∷ row) a = omega (arith, number-is limit n (a .0), sum-most row (a .1))
 

@@ -1,7 +1,7 @@
 -- What holds of each element of a list.
 use mathlib.Core.List.{List, [], _∷_, _++_}
 use Prim.Native.Nat.{ℕ, zero, suc}
-use lib.ListN.{drop, replicate}
+use lib.ListN.{drop, set, replicate}
 use Rattle.lists.specs.Lists.{All}
 
 module _ {A : Type 0} where
@@ -21,3 +21,8 @@ module _ {A : Type 0} where
   pub all-same : (P : A → Type 0) (k : ℕ) (x : A) → P x → All P (replicate k x)
   all-same P zero x p = tt
   all-same P (suc k) x p = (p, all-same P k x p)
+
+  pub all-set : (P : A → Type 0) (l : List A) (i : ℕ) (x : A) → All P l → P x → All P (set l i x)
+  all-set P [] i x a p = tt
+  all-set P (y ∷ l) zero x a p = (p, a .1)
+  all-set P (y ∷ l) (suc i) x a p = (a .0, all-set P l i x (a .1) p)

@@ -7,6 +7,7 @@ ghost use Rattle.reading.specs.Reading.{read, readInto};
 ghost use Rattle.totals.specs.Totals.{total, repeatedTotal};
 ghost use Rattle.encoder.specs.Writing.{write, writeInto};
 ghost use Rattle.appender.specs.Appending.{append, appendInto};
+ghost use Rattle.replacer.specs.Replacing.{replace, replaceInto};
 ghost use Rattle.headers.specs.Headers.{header};
 ghost use Rattle.header_reader.specs.Reading.{readHeader};
 ghost use Rattle.table_decoder.specs.Reading.{readTable, readTableInto, readBytes, readBytesInto};
@@ -124,6 +125,24 @@ pub extern "C" fn probe_append(
     tell(
         answer,
         answers::of_encoding(appender::append(order, buf, header, n)),
+    );
+}
+
+#[no_mangle]
+pub extern "C" fn probe_replace(
+    order: usize,
+    buf: &mut [u8],
+    used: usize,
+    place: usize,
+    n: u32,
+    answer: &mut [u64],
+)
+    ensures { λ r. ⌜ now (answer .exit) ≡ told (headed (replace order (now (buf .entry)) used place n)) (now (answer .entry)) ⌝ }
+    ensures { λ r. ⌜ now (buf .exit) ≡ replaceInto order (now (buf .entry)) used place n ⌝ }
+{
+    tell(
+        answer,
+        answers::of_encoding(replacer::replace(order, buf, used, place, n)),
     );
 }
 
