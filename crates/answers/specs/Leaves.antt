@@ -1,6 +1,6 @@
 -- What a call answers (paper 01, "When a call says no") as six numbers.
 use Rattle.std.specs.Prelude.{List, [], ◌∷◌, ℕ}
-use Rattle.calls.specs.Calls.{Outcome, accepted, and_then, answerNumber, answerPlace, answerResults}
+use Rattle.calls.specs.Calls.{Outcome, accepted, and_then, answer_number, answer_place, answer_results}
 use Rattle.headers.specs.declared.Header.{Header}
 use Rattle.answers.specs.declared.Answer.{Answer}
 
@@ -11,8 +11,8 @@ Results = ℕ × ℕ × ℕ × ℕ
 -- The answer number, the place, and the results, which are zeros after a refusal
 abbrev pub six : Outcome Results → List ℕ
 six o =
-    let results = answerResults (0, 0, 0, 0) o in
-    answerNumber o ∷ answerPlace o ∷ results.0 ∷ results.1 ∷ results.2 ∷ results.3 ∷ []
+    let results = answer_results (0, 0, 0, 0) o in
+    answer_number o ∷ answer_place o ∷ results.0 ∷ results.1 ∷ results.2 ∷ results.3 ∷ []
 
 -- Of a call with one result, and with two
 abbrev pub single : Outcome ℕ → Outcome Results

@@ -1,10 +1,10 @@
 // What a call answers as six numbers: the papers' answer number, the place, and four results, which are zeros where there are none. The console and the
 // probes go by it.
 ghost use Rattle.std.specs.Prelude.{◌≡◌};
-ghost use Rattle.calls.specs.Calls.{accepted, refused, countOutcome};
-ghost use Rattle.totals.specs.Totals.{totalOutcome};
-ghost use Rattle.headers.specs.Headers.{headerOutcome, encodingOutcome};
-ghost use Rattle.wavelet.specs.Answers.{questionOutcome};
+ghost use Rattle.calls.specs.Calls.{accepted, refused, count_outcome};
+ghost use Rattle.totals.specs.Totals.{total_outcome};
+ghost use Rattle.headers.specs.Headers.{header_outcome, encoding_outcome};
+ghost use Rattle.wavelet.specs.Answers.{question_outcome};
 ghost use Rattle.answers.specs.Leaves.{six, single, pair, three, headed, values};
 
 use calls::CountAnswer;
@@ -50,7 +50,7 @@ fn refused(r: calls::Refusal) -> Answer
 }
 
 pub fn of_count(a: CountAnswer) -> Answer
-    ensures { values result ≡ six (single (countOutcome a)) }
+    ensures { values result ≡ six (single (count_outcome a)) }
 {
     match a {
         CountAnswer::Count(n) => accepted(n as u64, 0, 0, 0),
@@ -59,7 +59,7 @@ pub fn of_count(a: CountAnswer) -> Answer
 }
 
 pub fn of_total(a: TotalAnswer) -> Answer
-    ensures { values result ≡ six (single (totalOutcome a)) }
+    ensures { values result ≡ six (single (total_outcome a)) }
 {
     match a {
         TotalAnswer::Sum(total) => accepted(total, 0, 0, 0),
@@ -68,7 +68,7 @@ pub fn of_total(a: TotalAnswer) -> Answer
 }
 
 pub fn of_header(a: HeaderAnswer) -> Answer
-    ensures { values result ≡ six (three (headerOutcome a)) }
+    ensures { values result ≡ six (three (header_outcome a)) }
 {
     match a {
         HeaderAnswer::Found(h) => accepted(h.bits as u64, h.count as u64, h.total, 0),
@@ -77,7 +77,7 @@ pub fn of_header(a: HeaderAnswer) -> Answer
 }
 
 pub fn of_encoding(a: EncodingAnswer) -> Answer
-    ensures { values result ≡ six (headed (encodingOutcome a)) }
+    ensures { values result ≡ six (headed (encoding_outcome a)) }
 {
     match a {
         EncodingAnswer::Encoded { bytes, header: h } => {
@@ -88,7 +88,7 @@ pub fn of_encoding(a: EncodingAnswer) -> Answer
 }
 
 pub fn of_question(a: QuestionAnswer) -> Answer
-    ensures { values result ≡ six (pair (questionOutcome a)) }
+    ensures { values result ≡ six (pair (question_outcome a)) }
 {
     match a {
         QuestionAnswer::Answered { result, visits } => accepted(result as u64, visits as u64, 0, 0),

@@ -4,10 +4,10 @@ use Rattle.bits.specs.Bits.{byte_count, unpack, pack}
 use Rattle.fibonacci.specs.Code.{codeword}
 use Rattle.calls.specs.declared.Refusal.TheVariants.{BadOrder, BadHeader, BadNumber, FullRow, NoRoom}
 use Rattle.calls.specs.Calls.{Outcome, accepted, check, buffer}
-use Rattle.calls.specs.Limits.{is_order, isOutside, maxNumber, maxCount}
+use Rattle.calls.specs.Limits.{is_order, is_outside, max_number, max_count}
 use Rattle.headers.specs.declared.Header.{Header}
 use Rattle.headers.specs.declared.EncodingAnswer.{EncodingAnswer}
-use Rattle.headers.specs.Headers.{header, capacity, isBadHeader, encodingOutcome}
+use Rattle.headers.specs.Headers.{header, capacity, is_bad_header, encoding_outcome}
 
 -- The header with a number more: the codeword's length, 1 and the number are added
 abbrev pub extended : ℕ → Header → ℕ → Header
@@ -18,16 +18,16 @@ extended m h n = header (h.bits + length (codeword m n)) (h.count + 1) (h.total 
 unfoldable pub append : ℕ → ℕ → Header → ℕ → Outcome (ℕ × Header)
 append m room h n =
     check BadOrder (not (is_order m))
-    (check BadHeader (isBadHeader room h)
-    (check (BadNumber 0) (isOutside maxNumber n)
-    (check FullRow (leb maxCount h.count)
+    (check BadHeader (is_bad_header room h)
+    (check (BadNumber 0) (is_outside max_number n)
+    (check FullRow (leb max_count h.count)
     (check NoRoom (ltb (capacity room) (extended m h n).bits)
     (accepted (byte_count (extended m h n).bits, extended m h n))))))
 
 -- The buffer after appending: the bits in use as they were, the codeword, zeros to the end of its byte, and what stood after it
-unfoldable pub appendInto : ℕ → List ℕ → Header → ℕ → List ℕ
-appendInto m before h n = buffer (append m (length before) h n) (pack (take h.bits (unpack before) ++ codeword m n)) before
+unfoldable pub append_into : ℕ → List ℕ → Header → ℕ → List ℕ
+append_into m before h n = buffer (append m (length before) h n) (pack (take h.bits (unpack before) ++ codeword m n)) before
 
 -- What is promised of the answer, and of the buffer before and after
 abbrev pub AppendPromise : ℕ → List ℕ → Header → ℕ → EncodingAnswer → List ℕ → Type 0
-AppendPromise m before h n a after = (encodingOutcome a ≡ append m (length before) h n) × (after ≡ appendInto m before h n)
+AppendPromise m before h n a after = (encoding_outcome a ≡ append m (length before) h n) × (after ≡ append_into m before h n)

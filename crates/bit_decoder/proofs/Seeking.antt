@@ -9,7 +9,7 @@ use native.Mathlib.Numerals.{add-one}
 use lib.ListN.{length, get_or, drop, length-append, length-replicate}
 use lib.Seq.{drop-cons}
 use Rattle.fibonacci.specs.Code.{ones, runs, value, first}
-use Rattle.calls.specs.Limits.{maxNumber}
+use Rattle.calls.specs.Limits.{max_number}
 use Rattle.fibonacci.proofs.Runs.{runs-ones, runs-all, runs-reset, ones-on}
 use Rattle.fibonacci.proofs.Numbers.{first-rises, value-append}
 use Rattle.reading.proofs.Reached.{Settled, settled-runs}
@@ -31,8 +31,8 @@ pub record Seeking (m : ℕ) (b : List Bool) (from k len val run : ℕ) : Type 0
   pub within : k ≤ length b
   pub at : k ≡ from + (len + run)
   pub long : length body ≡ len
-  pub value-is : first m len ≤ maxNumber → val ≡ value m 1 body
-  pub small : val ≤ maxNumber * k
+  pub value_is : first m len ≤ max_number → val ≡ value m 1 body
+  pub small : val ≤ max_number * k
 
 pub seeking-start : (m : ℕ) (b : List Bool) (from : ℕ) → from ≤ length b → Seeking m b from from 0 0 0
 unfolding value runs
@@ -46,7 +46,7 @@ seeking-start m b from h =
       within = h;
       at = omega arith;
       long = refl;
-      value-is = λ h. refl;
+      value_is = λ h. refl;
       small = omega arith;
     }
 
@@ -60,7 +60,7 @@ module _ {m : ℕ} {b : List Bool} {from k len val run : ℕ} (w : Seeking m b f
         at = w.at;
         within = w.within;
         long = w.long;
-        value-is = w.value-is;
+        value_is = w.value_is;
         small = w.small;
         ended = λ h. (
           omega (arith, w.few),
@@ -77,7 +77,7 @@ module _ {m : ℕ} {b : List Bool} {from k len val run : ℕ} (w : Seeking m b f
     next : (a : Bool) → get_or b k false ≡ a → drop k b ≡ a ∷ drop (k + 1) b
     next a e = drop-cons b k false h ∙ rw e (ap (λ (n : ℕ). a ∷ drop n b) (sym (add-one k)))
 
-    pub seeking-zero : (x : ℕ) → get_or b k false ≡ false → (first m (len + run + 1) ≤ maxNumber → x ≡ value m (len + 1) (ones run)) → x ≤ maxNumber
+    pub seeking-zero : (x : ℕ) → get_or b k false ≡ false → (first m (len + run + 1) ≤ max_number → x ≡ value m (len + 1) (ones run)) → x ≤ max_number
         → Seeking m b from (k + 1) (len + (run + 1)) (val + x) 0
     unfolding runs
     seeking-zero x e is few =
@@ -91,11 +91,11 @@ module _ {m : ℕ} {b : List Bool} {from k len val run : ℕ} (w : Seeking m b f
           within = omega arith;
           at = omega (arith, w.at);
           long = omega (arith, length-append w.body q, length-append (ones run) (false ∷ []), length-replicate run true, w.long);
-          value-is = λ l.
+          value_is = λ l.
               let far : len + (run + 1) ≡ len + run + 1 = omega arith in
-              let near : first m len ≤ maxNumber = omega (arith, first-rises m {j = len} {k = len + (run + 1)} (omega arith)) in
+              let near : first m len ≤ max_number = omega (arith, first-rises m {j = len} {k = len + (run + 1)} (omega arith)) in
               let place : value m (1 + length w.body) (ones run) ≡ value m (len + 1) (ones run) = ap (λ (j : ℕ). value m j (ones run)) (omega (arith, w.long)) in
-              omega (arith, value-zero m w.body run, w.value-is near, is (rw (← far) l));
+              omega (arith, value-zero m w.body run, w.value_is near, is (rw (← far) l));
           small = omega (arith, w.small);
         }
 
@@ -113,6 +113,6 @@ module _ {m : ℕ} {b : List Bool} {from k len val run : ℕ} (w : Seeking m b f
           within = omega arith;
           at = omega (arith, w.at);
           long = w.long;
-          value-is = w.value-is;
+          value_is = w.value_is;
           small = omega (arith, w.small);
         }

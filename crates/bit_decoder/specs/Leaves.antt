@@ -1,7 +1,7 @@
 -- What is known of the next codeword of a string of bits, or of what is left where there is none.
 use Rattle.std.specs.Prelude.{◌≡◌, Bool, List, ◌++◌, ℕ, ◌+◌, ◌*◌, ◌≤◌, ◌<◌, length, drop}
 use Rattle.fibonacci.specs.Code.{ones, runs, Codeword, value, first}
-use Rattle.calls.specs.Limits.{maxNumber}
+use Rattle.calls.specs.Limits.{max_number}
 use Rattle.bit_decoder.specs.declared.Next.{Next}
 
 -- From bit `from` of b on stand the bits `body` and then ones; the value of the body is known as far as a number of its length can be legal
@@ -11,8 +11,8 @@ pub record Sought (m : ℕ) (b : List Bool) (from : ℕ) (r : Next) : Type 0 whe
   pub at : r.bit ≡ from + (r.len + r.run)
   pub within : r.bit ≤ length b
   pub long : length body ≡ r.len
-  pub value-is : first m r.len ≤ maxNumber → r.val ≡ value m 1 body
-  pub small : r.val ≤ maxNumber * r.bit
+  pub value_is : first m r.len ≤ max_number → r.val ≡ value m 1 body
+  pub small : r.val ≤ max_number * r.bit
   -- with m ones they are a codeword
   pub ended : m ≤ r.run → (r.run ≡ m) × Codeword m (body ++ ones m)
   -- with fewer they are all that is left, without m ones in a row

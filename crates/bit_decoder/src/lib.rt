@@ -2,7 +2,7 @@
 ghost use Rattle.std.specs.Prelude.{◌≡◌, ◌+◌, ◌*◌, ◌^◌, ◌≤◌, ◌<◌, length};
 ghost use Rattle.bits.specs.Bits.{unpack};
 ghost use Rattle.fibonacci.specs.Code.{ones, value, first};
-ghost use Rattle.calls.specs.Limits.{maxNumber};
+ghost use Rattle.calls.specs.Limits.{max_number};
 ghost use Rattle.fibonacci.specs.Leaves.{Firsts};
 ghost use Rattle.bit_decoder.specs.Leaves.{Sought};
 
@@ -21,7 +21,7 @@ pub struct Next {
 // fewer than 2^32 bits, which `seek` shows.
 fn ones_value(firsts: &[u32; 47], order: usize, len: usize, run: usize) -> u64
     requires { Firsts order firsts.now × (len + run < 2 ^ 32) }
-    ensures { (first order (len + run + 1) ≤ maxNumber → result ≡ value order (len + 1) (ones run)) × (result ≤ maxNumber) }
+    ensures { (first order (len + run + 1) ≤ max_number → result ≡ value order (len + 1) (ones run)) × (result ≤ max_number) }
 {
     if run == 0 {
         return 0;

@@ -8,7 +8,7 @@ use native.Mathlib.Decide.{dec_le}
 use lib.ListN.{length, take, drop, length-append, length-drop, take-append-drop, drop_of_length-le}
 use lib.Seq.{take_at, take_all, drop_at, drop-drop, length-take-le}
 use Rattle.lists.proofs.Lists.{drop-take, take_inner}
-use Rattle.bits.specs.Bits.{wordBits, unpack}
+use Rattle.bits.specs.Bits.{word_bits, unpack}
 use Rattle.bits.specs.Leaves.{fit}
 use Rattle.bits.proofs.Words.{words-length}
 use Rattle.bits.proofs.Bytes.{unpack-append, unpack-length, unpack-drop}
@@ -54,19 +54,19 @@ module _ (used gap c : ℕ) (s : List ℕ) (i before w r : ℕ) where
   abbrev source : List Bool
   source = unpack (drop (i + gap) (take used s))
 
-  module _ (read : wordBits 64 w ≡ fit 64 source) (two : wordBits 64 r ++ wordBits c w ≡ wordBits c before ++ wordBits 64 w) where
+  module _ (read : word_bits 64 w ≡ fit 64 source) (two : word_bits 64 r ++ word_bits c w ≡ word_bits c before ++ word_bits 64 w) where
     -- what is written and what is left over, behind any bits
-    word-then : (z : List Bool) → wordBits 64 r ++ (wordBits c w ++ z) ≡ wordBits c before ++ (fit 64 source ++ z)
+    word-then : (z : List Bool) → word_bits 64 r ++ (word_bits c w ++ z) ≡ word_bits c before ++ (fit 64 source ++ z)
     word-then z =
-        sym (append_assoc (wordBits 64 r) (wordBits c w) z) ∙ ap (λ (l : List Bool). l ++ z) two ∙ append_assoc (wordBits c before) (wordBits 64 w) z
-        ∙ ap (λ (l : List Bool). wordBits c before ++ (l ++ z)) read
+        sym (append_assoc (word_bits 64 r) (word_bits c w) z) ∙ ap (λ (l : List Bool). l ++ z) two ∙ append_assoc (word_bits c before) (word_bits 64 w) z
+        ∙ ap (λ (l : List Bool). word_bits c before ++ (l ++ z)) read
 
     module _ (ys : List ℕ) (h : i + 8 ≤ length s) (e : ys ≡ word_bytes 8 r ++ drop 8 (take (length s - i) (drop i s))) where
       abbrev after : List ℕ
       after = part s (word_bytes 8 r) ys i 8 h (word-length 8 r) e
 
       -- the word r in front of what is left over and still to be read
-      stream-word : stream used gap c after (i + 8) w ≡ unpack (take i s) ++ (wordBits c before ++ (fit 64 source ++ drop 64 source))
+      stream-word : stream used gap c after (i + 8) w ≡ unpack (take i s) ++ (word_bits c before ++ (fit 64 source ++ drop 64 source))
       unfolding stream
       stream-word =
           let at : i + gap + 8 ≡ i + 8 + gap = omega arith in
@@ -74,10 +74,10 @@ module _ (used gap c : ℕ) (s : List ℕ) (i before w r : ℕ) where
           ap unpack (same_source (i + 8) gap used after s (stored-behind s (word_bytes 8 r) ys i 8 h (word-length 8 r) e))
           ∙ ap (λ (k : ℕ). unpack (drop k (take used s))) (sym at) ∙ ap unpack (sym (drop-drop 8 (i + gap) (take used s)))
           ∙ unpack-drop (drop (i + gap) (take used s)) 8 in
-          ap₂ (λ (u v : List Bool). u ++ (wordBits c w ++ v))
+          ap₂ (λ (u v : List Bool). u ++ (word_bits c w ++ v))
           (ap unpack (stored-front s (word_bytes 8 r) ys i 8 h (word-length 8 r) e) ∙ unpack-append (take i s) (word_bytes 8 r)
           ∙ ap (λ (l : List Bool). unpack (take i s) ++ l) (unpack-word 8 r)) next
-          ∙ append_assoc (unpack (take i s)) (wordBits 64 r) (wordBits c w ++ drop 64 source)
+          ∙ append_assoc (unpack (take i s)) (word_bits 64 r) (word_bits c w ++ drop 64 source)
           ∙ ap (λ (l : List Bool). unpack (take i s) ++ l) (word-then (drop 64 source))
 
       -- a whole word was in use
@@ -87,16 +87,16 @@ module _ (used gap c : ℕ) (s : List ℕ) (i before w r : ℕ) where
           let long : 64 ≤ length source =
           omega (arith, unpack-length (drop (i + gap) (take used s)), length-drop (i + gap) (take used s), length-take-le used s l) in
           stream-word
-          ∙ ap (λ (b : List Bool). unpack (take i s) ++ (wordBits c before ++ b))
+          ∙ ap (λ (b : List Bool). unpack (take i s) ++ (word_bits c before ++ b))
           (ap (λ (b : List Bool). b ++ drop 64 source) (fit-take 64 source long) ∙ take-append-drop 64 source)
 
       -- none, or only a part of it
       pub word-filled : (n : ℕ) → fit n (stream used gap c after (i + 8) w) ≡ fit n (stream used gap c s i before)
       unfolding stream
       word-filled n =
-          ap (fit n) (stream-word ∙ sym (append_assoc (unpack (take i s)) (wordBits c before) (fit 64 source ++ drop 64 source)))
-          ∙ fit-behind n 64 (unpack (take i s) ++ wordBits c before) source
-          ∙ ap (fit n) (append_assoc (unpack (take i s)) (wordBits c before) source)
+          ap (fit n) (stream-word ∙ sym (append_assoc (unpack (take i s)) (word_bits c before) (fit 64 source ++ drop 64 source)))
+          ∙ fit-behind n 64 (unpack (take i s) ++ word_bits c before) source
+          ∙ ap (fit n) (append_assoc (unpack (take i s)) (word_bits c before) source)
 
     -- the last n bytes
     module _ (n : ℕ) (few : n ≤ 8) (ys : List ℕ) (h : i + n ≤ length s)
@@ -106,22 +106,22 @@ module _ (used gap c : ℕ) (s : List ℕ) (i before w r : ℕ) where
       unfolding stream
       last-moved =
           let x : ℕ = r / 2 ^ (64 - 8 * n) in
-          let b : List Bool = wordBits c before ++ source in
+          let b : List Bool = word_bits c before ++ source in
           let lf : length (unpack (take i s)) ≡ 8 * i = unpack-length (take i s) ∙ ap (λ (k : ℕ). 8 * k) (length-take-le i s (omega arith)) in
           let k : 8 * (i + n) - length (unpack (take i s)) ≡ 8 * n = omega arith in
-          let bits : wordBits (8 * n) x ≡ fit (8 * n) b =
-          words-top n r few ∙ sym (fit-short (8 * n) (wordBits 64 r) (wordBits c w ++ drop 64 source) (omega (arith, words-length 64 r)))
-          ∙ ap (fit (8 * n)) (word-then (drop 64 source)) ∙ fit-behind (8 * n) 64 (wordBits c before) source in
+          let bits : word_bits (8 * n) x ≡ fit (8 * n) b =
+          words-top n r few ∙ sym (fit-short (8 * n) (word_bits 64 r) (word_bits c w ++ drop 64 source) (omega (arith, words-length 64 r)))
+          ∙ ap (fit (8 * n)) (word-then (drop 64 source)) ∙ fit-behind (8 * n) 64 (word_bits c before) source in
           ap unpack (stored-front s (word_bytes n x) ys i n h (word-length n x) e) ∙ unpack-append (take i s) (word_bytes n x)
           ∙ ap (λ (l : List Bool). unpack (take i s) ++ l) (unpack-word n x ∙ bits)
           ∙ sym (fit-split (8 * (i + n)) (unpack (take i s)) b (omega arith) ∙ ap (λ (j : ℕ). unpack (take i s) ++ fit j b) k)
 
 -- a word more of bytes that are moved by words
 module _ (used gap c : ℕ) (all : List Bool) (first s : List ℕ) (i before w r : ℕ) (m : Moved used gap c all first s i before) (in_use : i + gap + 8 ≤ used)
-    (room : used ≤ length s) (read : wordBits 64 w ≡ unpack (take 8 (drop (i + gap) s)))
-    (two : wordBits 64 r ++ wordBits c w ≡ wordBits c before ++ wordBits 64 w) (ys : List ℕ)
+    (room : used ≤ length s) (read : word_bits 64 w ≡ unpack (take 8 (drop (i + gap) s)))
+    (two : word_bits 64 r ++ word_bits c w ≡ word_bits c before ++ word_bits 64 w) (ys : List ℕ)
     (e : ys ≡ word_bytes 8 r ++ drop 8 (take (length s - i) (drop i s))) where
-  read-in-use : wordBits 64 w ≡ fit 64 (unpack (drop (i + gap) (take used s)))
+  read-in-use : word_bits 64 w ≡ fit 64 (unpack (drop (i + gap) (take used s)))
   read-in-use =
       word_read (take used s) (i + gap) w (omega (arith, length-take-le used s room)) (read ∙ ap unpack (sym (take_inner 8 (i + gap) used s in_use)))
 
@@ -140,7 +140,7 @@ stream_end : (used gap c end w : ℕ) (s : List ℕ) → end ≤ length s → fi
 unfolding stream
 stream_end used gap c end w s h =
     let l : length (unpack (take end s)) ≡ 8 * end = unpack-length (take end s) ∙ ap (λ (k : ℕ). 8 * k) (length-take-le end s h) in
-    fit-short (8 * end) (unpack (take end s)) (wordBits c w ++ unpack (drop (end + gap) (take used s))) (omega arith)
+    fit-short (8 * end) (unpack (take end s)) (word_bits c w ++ unpack (drop (end + gap) (take used s))) (omega arith)
     ∙ take_all (8 * end) (unpack (take end s)) (omega arith)
 
 pub moved-end : (used gap c end i w : ℕ) (s before : List ℕ) (all : List Bool) → end ≤ length s → i ≤ end → end ≤ i → drop end s ≡ drop end before
@@ -151,8 +151,8 @@ moved-end used gap c end i w s before all room m l same e =
     ∙ ap₂ (λ (u v : List Bool). u ++ v)
     (sym (stream_end used gap c end w s room) ∙ ap (λ (k : ℕ). fit (8 * end) (stream used gap c s k w)) (sym at) ∙ e) (ap unpack same)
 
-module _ (used end gap c : ℕ) (s : List ℕ) (i before w r n : ℕ) (read : wordBits 64 w ≡ fit 64 (unpack (drop (i + gap) (take used s))))
-    (two : wordBits 64 r ++ wordBits c w ≡ wordBits c before ++ wordBits 64 w) (least : n ≡ min 8 (end - i)) (h : i < end) (room : end ≤ length s) (ys : List ℕ)
+module _ (used end gap c : ℕ) (s : List ℕ) (i before w r n : ℕ) (read : word_bits 64 w ≡ fit 64 (unpack (drop (i + gap) (take used s))))
+    (two : word_bits 64 r ++ word_bits c w ≡ word_bits c before ++ word_bits 64 w) (least : n ≡ min 8 (end - i)) (h : i < end) (room : end ≤ length s) (ys : List ℕ)
     (e : ys ≡ word_bytes n (r / 2 ^ (64 - 8 * n)) ++ drop n (take (length s - i) (drop i s))) where
   abbrev rest-after : List ℕ
   rest-after = take i s ++ (ys ++ drop (length s - i) (drop i s))

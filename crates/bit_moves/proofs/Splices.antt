@@ -7,7 +7,7 @@ use native.Mathlib.Omega.{arith}
 use native.Mathlib.Nat.{add-zero}
 use lib.ListN.{length, get_or, take, drop, replicate, length-append, length-drop, replicate-append-replicate}
 use lib.Seq.{take-take, take-add, drop_at, drop-drop, drop-cons, length-take-le, get_or-take, get_or-drop, take-append-le, drop-append-le}
-use Rattle.bits.specs.Bits.{Bytes, wordBits, unpack, byte_count, pack, padding}
+use Rattle.bits.specs.Bits.{Bytes, word_bits, unpack, byte_count, pack, padding}
 use Rattle.bits.specs.Leaves.{fit}
 use Rattle.bits.proofs.Words.{words-length, words-split, words-mod, words-zero}
 use Rattle.bits.proofs.Bytes.{unpack-append, unpack-take, unpack-drop, first-bits}
@@ -19,7 +19,7 @@ use Rattle.bit_moves.specs.Leaves.{splice, stream, Moved}
 
 -- the last p bits of the byte in which the bits before bit `from` end, where that byte ends p bits after
 byte-end : (s : List ℕ) (from p : ℕ) → 1 ≤ from → from ≤ 8 * length s → p < 8 → (from + p) % 8 ≡ 0
-    → drop from (unpack s) ≡ wordBits p (get_or s ((from - 1) / 8) 0) ++ unpack (drop ((from + p) / 8) s)
+    → drop from (unpack s) ≡ word_bits p (get_or s ((from - 1) / 8) 0) ++ unpack (drop ((from + p) / 8) s)
 unfolding unpack flatten
 byte-end s from p h i k z =
     let q : ℕ = (from - 1) / 8 in
@@ -27,13 +27,13 @@ byte-end s from p h i k z =
     let at : 8 * q + (8 - p) ≡ from = omega arith in
     let next : (from + p) / 8 ≡ suc q = omega arith in
     let eight : 8 ≡ 8 - p + p = omega arith in
-    let byte : drop (8 * q) (unpack s) ≡ wordBits (8 - p) (b / 2 ^ p) ++ (wordBits p b ++ unpack (drop (suc q) s)) =
+    let byte : drop (8 * q) (unpack s) ≡ word_bits (8 - p) (b / 2 ^ p) ++ (word_bits p b ++ unpack (drop (suc q) s)) =
     sym (unpack-drop s q) ∙ ap unpack (drop-cons s q 0 (omega arith))
-    ∙ ap (λ (l : List Bool). l ++ unpack (drop (suc q) s)) (ap (λ (n : ℕ). wordBits n b) eight ∙ words-split (8 - p) p b)
-    ∙ append_assoc (wordBits (8 - p) (b / 2 ^ p)) (wordBits p b) (unpack (drop (suc q) s)) in
+    ∙ ap (λ (l : List Bool). l ++ unpack (drop (suc q) s)) (ap (λ (n : ℕ). word_bits n b) eight ∙ words-split (8 - p) p b)
+    ∙ append_assoc (word_bits (8 - p) (b / 2 ^ p)) (word_bits p b) (unpack (drop (suc q) s)) in
     ap (λ (n : ℕ). drop n (unpack s)) (sym at) ∙ sym (drop-drop (8 - p) (8 * q) (unpack s)) ∙ ap (drop (8 - p)) byte
-    ∙ drop_at (wordBits (8 - p) (b / 2 ^ p)) (wordBits p b ++ unpack (drop (suc q) s)) (8 - p) (words-length (8 - p) (b / 2 ^ p))
-    ∙ ap (λ (n : ℕ). wordBits p b ++ unpack (drop n s)) (sym next)
+    ∙ drop_at (word_bits (8 - p) (b / 2 ^ p)) (word_bits p b ++ unpack (drop (suc q) s)) (8 - p) (words-length (8 - p) (b / 2 ^ p))
+    ∙ ap (λ (n : ℕ). word_bits p b ++ unpack (drop n s)) (sym next)
 
 module _ (s : List ℕ) (used at old : ℕ) (new : List Bool) (room : used ≤ length s) (some : 1 ≤ old) (in_use : at + old ≤ 8 * used) where
   -- the first byte that is read whole, and how many bits before it stay
@@ -44,7 +44,7 @@ module _ (s : List ℕ) (used at old : ℕ) (new : List Bool) (room : used ≤ l
   others = 8 * whole - (at + old)
 
   pub stream-splice : (x c b d : ℕ) → b ≡ get_or s (at / 8) 0 → d ≡ get_or s (whole - 1) 0
-      → wordBits c x ≡ wordBits (at % 8) (b / 2 ^ (8 - at % 8)) ++ (new ++ wordBits others (d % 2 ^ others))
+      → word_bits c x ≡ word_bits (at % 8) (b / 2 ^ (8 - at % 8)) ++ (new ++ word_bits others (d % 2 ^ others))
       → stream used (whole - at / 8) c s (at / 8) x ≡ splice at old new (unpack (take used s))
   unfolding splice stream
   stream-splice x c b d eb ed e =
@@ -56,28 +56,28 @@ module _ (s : List ℕ) (used at old : ℕ) (new : List Bool) (room : used ≤ l
       let lt : length t ≡ used = length-take-le used s room in
       let zero-th : get_or (drop k t) 0 0 ≡ b =
       get_or-drop k t 0 0 ∙ ap (λ (n : ℕ). get_or t n 0) (add-zero k) ∙ get_or-take used s k 0 (omega arith) ∙ sym eb in
-      let kept : wordBits o (b / 2 ^ (8 - o)) ≡ take o (drop (8 * k) u) =
-      ap (λ (y : ℕ). wordBits o (y / 2 ^ (8 - o))) (sym zero-th) ∙ first-bits (drop k t) o (omega arith) (omega (arith, length-drop k t)) ∙ ap (take o) (unpack-drop t k) in
+      let kept : word_bits o (b / 2 ^ (8 - o)) ≡ take o (drop (8 * k) u) =
+      ap (λ (y : ℕ). word_bits o (y / 2 ^ (8 - o))) (sym zero-th) ∙ first-bits (drop k t) o (omega arith) (omega (arith, length-drop k t)) ∙ ap (take o) (unpack-drop t k) in
       let in-at : 8 * k + o ≡ at = omega arith in
       let first : take at u ≡ take (8 * k) u ++ take o (drop (8 * k) u) = ap (λ (n : ℕ). take n u) (sym in-at) ∙ take-add (8 * k) o u in
       let last : whole - 1 ≡ (at + old - 1) / 8 = omega arith in
       let byte : d ≡ get_or t ((at + old - 1) / 8) 0 =
       ed ∙ ap (λ (n : ℕ). get_or s n 0) last ∙ sym (get_or-take used s ((at + old - 1) / 8) 0 (omega arith)) in
       let same : (at + old + others) / 8 ≡ k + (whole - k) = omega arith in
-      let tail : wordBits others (d % 2 ^ others) ++ unpack (drop (k + (whole - k)) t) ≡ drop (at + old) u =
+      let tail : word_bits others (d % 2 ^ others) ++ unpack (drop (k + (whole - k)) t) ≡ drop (at + old) u =
       sym (byte-end t (at + old) others (omega arith) (omega arith) (omega arith) (omega arith)
-      ∙ ap₂ (λ (y n : ℕ). wordBits others y ++ unpack (drop n t)) (sym byte) same
+      ∙ ap₂ (λ (y n : ℕ). word_bits others y ++ unpack (drop n t)) (sym byte) same
       ∙ ap (λ (l : List Bool). l ++ unpack (drop (k + (whole - k)) t)) (sym (words-mod others others d (omega arith)))) in
       let z : List Bool = unpack (drop (k + (whole - k)) t) in
-      ap₂ (λ (u v : List Bool). u ++ (v ++ z)) front (e ∙ ap (λ (l : List Bool). l ++ (new ++ wordBits others (d % 2 ^ others))) kept)
+      ap₂ (λ (u v : List Bool). u ++ (v ++ z)) front (e ∙ ap (λ (l : List Bool). l ++ (new ++ word_bits others (d % 2 ^ others))) kept)
       ∙ ap (λ (l : List Bool). take (8 * k) u ++ l)
-      (append_assoc (take o (drop (8 * k) u)) (new ++ wordBits others (d % 2 ^ others)) z
-      ∙ ap (λ (l : List Bool). take o (drop (8 * k) u) ++ l) (append_assoc new (wordBits others (d % 2 ^ others)) z ∙ ap (λ (l : List Bool). new ++ l) tail))
+      (append_assoc (take o (drop (8 * k) u)) (new ++ word_bits others (d % 2 ^ others)) z
+      ∙ ap (λ (l : List Bool). take o (drop (8 * k) u) ++ l) (append_assoc new (word_bits others (d % 2 ^ others)) z ∙ ap (λ (l : List Bool). new ++ l) tail))
       ∙ sym (append_assoc (take (8 * k) u) (take o (drop (8 * k) u)) (new ++ drop (at + old) u)) ∙ ap (λ (l : List Bool). l ++ (new ++ drop (at + old) u)) (sym first)
 
   -- words moved from there on, and then the last bytes up to byte `end`
   pub spliced : (exit t : List ℕ) (end i w x c b d : ℕ) → used ≤ end → i ≤ used → Moved used (whole - at / 8) c (stream used (whole - at / 8) c s (at / 8) x) s t i w
-      → b ≡ get_or s (at / 8) 0 → d ≡ get_or s (whole - 1) 0 → wordBits c x ≡ wordBits (at % 8) (b / 2 ^ (8 - at % 8)) ++ (new ++ wordBits others (d % 2 ^ others))
+      → b ≡ get_or s (at / 8) 0 → d ≡ get_or s (whole - 1) 0 → word_bits c x ≡ word_bits (at % 8) (b / 2 ^ (8 - at % 8)) ++ (new ++ word_bits others (d % 2 ^ others))
       → unpack exit ≡ fit (8 * end) (stream used (whole - at / 8) c t i w) ++ unpack (drop end t)
       → unpack exit ≡ fit (8 * end) (splice at old new (unpack (take used s))) ++ unpack (drop end s)
   spliced exit t end i w x c b d most l m eb ed e q =

@@ -10,7 +10,7 @@ use lib.Seq.{take_at, drop-drop, drop-cons}
 use lib.Pow.{shl_exact, shr_lt, pow-add, pow_pos}
 use lib.Bits.{bit_and, bit_or, and_mask, or_shifted}
 use lib.Arith.{digits_lt, mod-mul}
-use Rattle.bits.specs.Bits.{wordBits, unpack}
+use Rattle.bits.specs.Bits.{word_bits, unpack}
 use Rattle.bits.specs.Leaves.{fit}
 use Rattle.bits.proofs.Words.{words-length, words-split, words-mod, words-join, words-zero}
 use Rattle.bits.proofs.Bytes.{unpack-length, unpack-take, unpack-drop}
@@ -35,7 +35,7 @@ shifted-out x c d e =
     ∙ ap₂ (λ (a b : ℕ). (a % 2 ^ c) * 2 ^ d + b) back none ∙ omega arith
 
 pub words-two : (before c w : ℕ) → (1 ≤ c) × (c < 64) → w < 2 ^ 64
-    → wordBits 64 (bit_or (before * 2 ^ (64 - c) % 2 ^ 64) (w / 2 ^ c)) ++ wordBits c w ≡ wordBits c before ++ wordBits 64 w
+    → word_bits 64 (bit_or (before * 2 ^ (64 - c) % 2 ^ 64) (w / 2 ^ c)) ++ word_bits c w ≡ word_bits c before ++ word_bits 64 w
 words-two before c w (i, j) k =
     let d : ℕ = 64 - c in
     let up : 64 ≡ c + d = omega arith in
@@ -43,15 +43,15 @@ words-two before c w (i, j) k =
     let few : w / 2 ^ c < 2 ^ d = shr_lt d c (subst (λ (n : ℕ). w < 2 ^ n) down k) in
     let value : bit_or (before * 2 ^ d % 2 ^ 64) (w / 2 ^ c) ≡ (before % 2 ^ c) * 2 ^ d + w / 2 ^ c =
     ap (λ (x : ℕ). bit_or x (w / 2 ^ c)) (shifted-out before c d (sym up)) ∙ or_shifted (before % 2 ^ c) d (w / 2 ^ c) few in
-    let first : wordBits 64 ((before % 2 ^ c) * 2 ^ d + w / 2 ^ c) ≡ wordBits c before ++ wordBits d (w / 2 ^ c) =
-    ap (λ (n : ℕ). wordBits n ((before % 2 ^ c) * 2 ^ d + w / 2 ^ c)) up ∙ words-join c d (before % 2 ^ c) (w / 2 ^ c) few
-    ∙ ap (λ (l : List Bool). l ++ wordBits d (w / 2 ^ c)) (words-mod c c before (omega arith)) in
-    let second : wordBits 64 w ≡ wordBits d (w / 2 ^ c) ++ wordBits c w = ap (λ (n : ℕ). wordBits n w) down ∙ words-split d c w in
-    ap (λ (l : List Bool). l ++ wordBits c w) (ap (wordBits 64) value ∙ first) ∙ append_assoc (wordBits c before) (wordBits d (w / 2 ^ c)) (wordBits c w)
-    ∙ ap (λ (l : List Bool). wordBits c before ++ l) (sym second)
+    let first : word_bits 64 ((before % 2 ^ c) * 2 ^ d + w / 2 ^ c) ≡ word_bits c before ++ word_bits d (w / 2 ^ c) =
+    ap (λ (n : ℕ). word_bits n ((before % 2 ^ c) * 2 ^ d + w / 2 ^ c)) up ∙ words-join c d (before % 2 ^ c) (w / 2 ^ c) few
+    ∙ ap (λ (l : List Bool). l ++ word_bits d (w / 2 ^ c)) (words-mod c c before (omega arith)) in
+    let second : word_bits 64 w ≡ word_bits d (w / 2 ^ c) ++ word_bits c w = ap (λ (n : ℕ). word_bits n w) down ∙ words-split d c w in
+    ap (λ (l : List Bool). l ++ word_bits c w) (ap (word_bits 64) value ∙ first) ∙ append_assoc (word_bits c before) (word_bits d (w / 2 ^ c)) (word_bits c w)
+    ∙ ap (λ (l : List Bool). word_bits c before ++ l) (sym second)
 
 pub words-three : (kept o word len last p : ℕ) → (o + len + p < 64) × (kept < 2 ^ o) × (word < 2 ^ len) × (last < 2 ^ p)
-    → wordBits (o + len + p) (bit_or (bit_or (kept * 2 ^ len % 2 ^ 64) word * 2 ^ p % 2 ^ 64) last) ≡ wordBits o kept ++ (wordBits len word ++ wordBits p last)
+    → word_bits (o + len + p) (bit_or (bit_or (kept * 2 ^ len % 2 ^ 64) word * 2 ^ p % 2 ^ 64) last) ≡ word_bits o kept ++ (word_bits len word ++ word_bits p last)
 words-three kept o word len last p (n, hk, hw, hl) =
     let two : ℕ = kept * 2 ^ len + word in
     let e : bit_or (kept * 2 ^ len % 2 ^ 64) word ≡ two =
@@ -60,35 +60,35 @@ words-three kept o word len last p (n, hk, hw, hl) =
     let value : bit_or (bit_or (kept * 2 ^ len % 2 ^ 64) word * 2 ^ p % 2 ^ 64) last ≡ two * 2 ^ p + last =
     ap (λ (x : ℕ). bit_or (x * 2 ^ p % 2 ^ 64) last) e ∙ ap (λ (x : ℕ). bit_or x last) (shl_exact (o + len) p 64 b (omega arith)) ∙ or_shifted two p last hl in
     rw value
-    (words-join (o + len) p two last hl ∙ ap (λ (l : List Bool). l ++ wordBits p last) (words-join o len kept word hw)
-    ∙ append_assoc (wordBits o kept) (wordBits len word) (wordBits p last))
+    (words-join (o + len) p two last hl ∙ ap (λ (l : List Bool). l ++ word_bits p last) (words-join o len kept word hw)
+    ∙ append_assoc (word_bits o kept) (word_bits len word) (word_bits p last))
 
 -- the first bytes of a word
-pub words-top : (n w : ℕ) → n ≤ 8 → wordBits (8 * n) (w / 2 ^ (64 - 8 * n)) ≡ take (8 * n) (wordBits 64 w)
+pub words-top : (n w : ℕ) → n ≤ 8 → word_bits (8 * n) (w / 2 ^ (64 - 8 * n)) ≡ take (8 * n) (word_bits 64 w)
 words-top n w h =
     let e : 64 ≡ 8 * n + (64 - 8 * n) = omega arith in
-    sym (ap (take (8 * n)) (ap (λ (k : ℕ). wordBits k w) e ∙ words-split (8 * n) (64 - 8 * n) w)
-    ∙ take_at (wordBits (8 * n) (w / 2 ^ (64 - 8 * n))) (wordBits (64 - 8 * n) w) (8 * n) (words-length (8 * n) (w / 2 ^ (64 - 8 * n))))
+    sym (ap (take (8 * n)) (ap (λ (k : ℕ). word_bits k w) e ∙ words-split (8 * n) (64 - 8 * n) w)
+    ∙ take_at (word_bits (8 * n) (w / 2 ^ (64 - 8 * n))) (word_bits (64 - 8 * n) w) (8 * n) (words-length (8 * n) (w / 2 ^ (64 - 8 * n))))
 
 -- ## Reading
 
 -- a byte, and none
-pub byte-read : (s : List ℕ) (j : ℕ) → j < length s → wordBits 8 (get_or s j 0) ≡ fit 8 (unpack (drop j s))
+pub byte-read : (s : List ℕ) (j : ℕ) → j < length s → word_bits 8 (get_or s j 0) ≡ fit 8 (unpack (drop j s))
 unfolding unpack flatten
 byte-read s j h =
-    let e : unpack (drop j s) ≡ wordBits 8 (get_or s j 0) ++ unpack (drop (suc j) s) = ap unpack (drop-cons s j 0 h) in
-    sym (ap (fit 8) e ∙ fit-split 8 (wordBits 8 (get_or s j 0)) (unpack (drop (suc j) s)) (omega (arith, words-length 8 (get_or s j 0)))
-    ∙ ap (λ (k : ℕ). wordBits 8 (get_or s j 0) ++ fit (8 - k) (unpack (drop (suc j) s))) (words-length 8 (get_or s j 0))
-    ∙ unfold fit in append-nil (wordBits 8 (get_or s j 0)))
+    let e : unpack (drop j s) ≡ word_bits 8 (get_or s j 0) ++ unpack (drop (suc j) s) = ap unpack (drop-cons s j 0 h) in
+    sym (ap (fit 8) e ∙ fit-split 8 (word_bits 8 (get_or s j 0)) (unpack (drop (suc j) s)) (omega (arith, words-length 8 (get_or s j 0)))
+    ∙ ap (λ (k : ℕ). word_bits 8 (get_or s j 0) ++ fit (8 - k) (unpack (drop (suc j) s))) (words-length 8 (get_or s j 0))
+    ∙ unfold fit in append-nil (word_bits 8 (get_or s j 0)))
 
-pub byte-none : (s : List ℕ) (j : ℕ) → length s ≤ j → wordBits 8 0 ≡ fit 8 (unpack (drop j s))
+pub byte-none : (s : List ℕ) (j : ℕ) → length s ≤ j → word_bits 8 0 ≡ fit 8 (unpack (drop j s))
 unfolding unpack flatten
 byte-none s j h = words-zero 8 ∙ sym (ap (λ (l : List ℕ). fit 8 (unpack l)) (drop_of_length-le s {i = j} h) ∙ fit-nil 8)
 
 -- a byte more of a word
-module _ (s : List ℕ) (j k w b : ℕ) (few : k < 8) (small : w < 2 ^ (8 * k)) (read : wordBits (8 * k) w ≡ fit (8 * k) (unpack (drop j s)))
-    (byte : (b < 256) × (wordBits 8 b ≡ fit 8 (unpack (drop (j + k) s)))) where
-  pub word_more : (bit_or (w * 2 ^ 8 % 2 ^ 64) b < 2 ^ (8 * (k + 1))) × (wordBits (8 * (k + 1)) (bit_or (w * 2 ^ 8 % 2 ^ 64) b) ≡ fit (8 * (k + 1)) (unpack (drop j s)))
+module _ (s : List ℕ) (j k w b : ℕ) (few : k < 8) (small : w < 2 ^ (8 * k)) (read : word_bits (8 * k) w ≡ fit (8 * k) (unpack (drop j s)))
+    (byte : (b < 256) × (word_bits 8 b ≡ fit 8 (unpack (drop (j + k) s)))) where
+  pub word_more : (bit_or (w * 2 ^ 8 % 2 ^ 64) b < 2 ^ (8 * (k + 1))) × (word_bits (8 * (k + 1)) (bit_or (w * 2 ^ 8 % 2 ^ 64) b) ≡ fit (8 * (k + 1)) (unpack (drop j s)))
   word_more =
       let n : 8 * (k + 1) ≡ 8 * k + 8 = omega arith in
       let value : bit_or (w * 2 ^ 8 % 2 ^ 64) b ≡ w * 2 ^ 8 + b =
@@ -100,6 +100,6 @@ module _ (s : List ℕ) (j k w b : ℕ) (few : k < 8) (small : w < 2 ^ (8 * k)) 
       )
 
 -- eight bytes that are there
-pub word_read : (s : List ℕ) (j w : ℕ) → j + 8 ≤ length s → wordBits 64 w ≡ unpack (take 8 (drop j s)) → wordBits 64 w ≡ fit 64 (unpack (drop j s))
+pub word_read : (s : List ℕ) (j w : ℕ) → j + 8 ≤ length s → word_bits 64 w ≡ unpack (take 8 (drop j s)) → word_bits 64 w ≡ fit 64 (unpack (drop j s))
 word_read s j w h e =
     e ∙ unpack-take (drop j s) 8 ∙ sym (fit-take 64 (unpack (drop j s)) (omega (arith, unpack-length (drop j s), length-drop j s)))

@@ -1,6 +1,6 @@
 // Bits of a buffer replaced by others, more or fewer of them: the bits behind them move, by words of 64 bits.
 ghost use Rattle.std.specs.Prelude.{◌≡◌, ◌++◌, ◌+◌, ◌*◌, ◌%◌, ◌^◌, ◌≤◌, ◌<◌, length, take, drop};
-ghost use Rattle.bits.specs.Bits.{wordBits, unpack};
+ghost use Rattle.bits.specs.Bits.{word_bits, unpack};
 ghost use Rattle.bits.specs.Leaves.{fit};
 ghost use Rattle.bit_moves.specs.Leaves.{splice, stream, Moved};
 
@@ -24,7 +24,7 @@ fn low(w: u64, n: usize) -> u64
 // bits, which `splice` shows.
 fn three(kept: u64, o: usize, word: u64, len: usize, last: u64, p: usize) -> u64
     requires { (o + len + p < 64) × (kept < 2 ^ o) × (word < 2 ^ len) × (last < 2 ^ p) }
-    ensures { wordBits (o + len + p) result ≡ wordBits o kept ++ (wordBits len word ++ wordBits p last) }
+    ensures { word_bits (o + len + p) result ≡ word_bits o kept ++ (word_bits len word ++ word_bits p last) }
 {
     (kept << len | word) << p | last
 }
@@ -33,14 +33,14 @@ fn three(kept: u64, o: usize, word: u64, len: usize, last: u64, p: usize) -> u64
 // each, which `splice` shows.
 fn joined(before: u64, c: usize, w: u64) -> u64
     requires { (1 ≤ c) × (c < 64) }
-    ensures { wordBits 64 result ++ wordBits c w ≡ wordBits c before ++ wordBits 64 w }
+    ensures { word_bits 64 result ++ word_bits c w ≡ word_bits c before ++ word_bits 64 w }
 {
     before << (64 - c) | w >> c
 }
 
 // Byte j of the slice; 0 past its end.
 fn byte_or_zero(s: &[u8], j: usize) -> u64
-    ensures { (result < 256) × (wordBits 8 result ≡ fit 8 (unpack (drop j s.now))) }
+    ensures { (result < 256) × (word_bits 8 result ≡ fit 8 (unpack (drop j s.now))) }
 {
     if j < s.len() { bits::wide(s[j]) } else { 0 }
 }
@@ -48,7 +48,7 @@ fn byte_or_zero(s: &[u8], j: usize) -> u64
 // Eight bytes of the slice as a word; zeros past its end. Requires: a place that can be counted from, which `move_last` shows.
 fn word_or_zeros(s: &[u8], j: usize) -> u64
     requires { j < 2 ^ 33 }
-    ensures { wordBits 64 result ≡ fit 64 (unpack (drop j s.now)) }
+    ensures { word_bits 64 result ≡ fit 64 (unpack (drop j s.now)) }
 {
     let mut w: u64 = 0;
     for k in 0..8 {
@@ -97,7 +97,7 @@ fn move_last(s: &mut [u8], used: usize, end: usize, gap: usize, c: usize, at: Pr
 // others, and at least the bytes in use are written, within the buffer, which `replacer` shows.
 pub fn splice(s: &mut [u8], used: usize, end: usize, at: usize, old: usize, word: u64, len: usize)
     requires { (used ≤ end) × (end ≤ length s.old) × (end < 2 ^ 32) × (1 ≤ old) × (at + old ≤ 8 * used) × (1 ≤ len) × (len ≤ 48) × (word < 2 ^ len) }
-    ensures { unpack s.new ≡ fit (8 * end) (splice at old (wordBits len word) (unpack (take used s.old))) ++ unpack (drop end s.old) }
+    ensures { unpack s.new ≡ fit (8 * end) (splice at old (word_bits len word) (unpack (take used s.old))) ++ unpack (drop end s.old) }
 {
     let start = at / 8;
     let o = at % 8;

@@ -1,13 +1,13 @@
 // Bits put into a byte slice, up to 56 at once.
 ghost use Rattle.std.specs.Prelude.{◌≡◌, ◌++◌, ◌+◌, ◌*◌, ◌^◌, ◌≤◌, ◌<◌, length, drop};
-ghost use Rattle.bits.specs.Bits.{wordBits, unpack, bytes_of};
-ghost use Rattle.bits.specs.Leaves.{putTo, put_at};
+ghost use Rattle.bits.specs.Bits.{word_bits, unpack, bytes_of};
+ghost use Rattle.bits.specs.Leaves.{put_to, put_at};
 
 // The n low bytes of w, the highest first, at the front of the slice. Requires: at most 8, and there is room, which `put_word` shows, and `bit_moves` for
 // the bytes that it moves last.
 pub fn store(s: &mut [u8], w: u64, n: usize)
     requires { (n ≤ 8) × (n ≤ length s.old) }
-    ensures { s.new ≡ bytes_of n (wordBits (8 * n) w) ++ drop n s.old }
+    ensures { s.new ≡ bytes_of n (word_bits (8 * n) w) ++ drop n s.old }
 {
     for i in 0..n {
         let shifted = w >> (8 * (n - 1 - i));
@@ -18,7 +18,7 @@ pub fn store(s: &mut [u8], w: u64, n: usize)
 // The same with all eight bytes of w. (So written it is compiled to one store.) Requires: there is room, which `put_over` shows, and `bit_moves`.
 pub fn store_word(s: &mut [u8], w: u64)
     requires { 8 ≤ length s.old }
-    ensures { s.new ≡ bytes_of 8 (wordBits 64 w) ++ drop 8 s.old }
+    ensures { s.new ≡ bytes_of 8 (word_bits 64 w) ++ drop 8 s.old }
 {
     s[0] = ((w >> 56) % 256) as u8;
     s[1] = ((w >> 48) % 256) as u8;
@@ -34,7 +34,7 @@ pub fn store_word(s: &mut [u8], w: u64)
 // bits, which both functions below show.
 fn joined(first: u8, o: usize, word: u64, len: usize, width: usize) -> u64
     requires { (o < 8) × (1 ≤ len) × (len ≤ 56) × (word < 2 ^ len) × (8 ≤ width) × (o + len ≤ width) × (width ≤ 64) }
-    ensures { wordBits width result ≡ putTo o (wordBits len word) width (wordBits 8 first) }
+    ensures { word_bits width result ≡ put_to o (word_bits len word) width (word_bits 8 first) }
 {
     let kept = bits::wide(first) >> (8 - o);
     let pad = width - (o + len);
@@ -45,7 +45,7 @@ fn joined(first: u8, o: usize, word: u64, len: usize, width: usize) -> u64
 // others, and they fit, which the writer of codewords shows on the part of its buffer from the byte with the first free bit.
 pub fn put_word(s: &mut [u8], o: usize, word: u64, len: usize)
     requires { (o < 8) × (1 ≤ len) × (len ≤ 56) × (word < 2 ^ len) × (o + len ≤ 8 * length s.old) }
-    ensures { unpack s.new ≡ put_at o (wordBits len word) (unpack s.old) }
+    ensures { unpack s.new ≡ put_at o (word_bits len word) (unpack s.old) }
 {
     let n = o + len;
     let count = (n + 7) / 8;
@@ -57,7 +57,7 @@ pub fn put_word(s: &mut [u8], o: usize, word: u64, len: usize)
 // the word later.
 pub fn put_over(s: &mut [u8], o: usize, word: u64, len: usize)
     requires { (o < 8) × (1 ≤ len) × (len ≤ 56) × (word < 2 ^ len) × (8 ≤ length s.old) }
-    ensures { unpack s.new ≡ putTo o (wordBits len word) 64 (unpack s.old) }
+    ensures { unpack s.new ≡ put_to o (word_bits len word) 64 (unpack s.old) }
 {
     let all = joined(s[0], o, word, len, 64);
     store_word(s, all);

@@ -12,15 +12,15 @@ use lib.Bits.{bit_or, or_shifted}
 use lib.Count.{ones, ones_in, ones_cat}
 use Rattle.lists.specs.Lists.{filter}
 use Rattle.lists.proofs.Filter.{filter-pass, filter-fail}
-use Rattle.bits.specs.Bits.{wordBits, unpack, bitValue, sameBit, count}
+use Rattle.bits.specs.Bits.{word_bits, unpack, bit_value, same_bit, count}
 use Rattle.bits.proofs.Words.{digit, bit-value, words-join}
 use Rattle.bits.proofs.Bytes.{unpack-append, unpack-length, unpack-take, unpack-drop, high-below, first-bits}
 
 -- ## Bytes as a word
 
-pub byte-bits : (s : List ℕ) (i : ℕ) → i < length s → wordBits 8 (get_or s i 0) ≡ unpack (take 1 (drop i s))
+pub byte-bits : (s : List ℕ) (i : ℕ) → i < length s → word_bits 8 (get_or s i 0) ≡ unpack (take 1 (drop i s))
 unfolding unpack flatten
-byte-bits s i h = sym (ap (λ (l : List ℕ). unpack (take 1 l)) (drop-cons s i 0 h) ∙ append-nil (wordBits 8 (get_or s i 0)))
+byte-bits s i h = sym (ap (λ (l : List ℕ). unpack (take 1 l)) (drop-cons s i 0 h) ∙ append-nil (word_bits 8 (get_or s i 0)))
 
 -- one byte more, as the machine puts it below the others
 or_byte : (x a b k : ℕ) → x ≡ a * 2 ^ (8 + k) → b < 256 → 8 + k ≤ 64 → bit_or x (b * 2 ^ k % 2 ^ 64) ≡ (a * 256 + b) * 2 ^ k
@@ -28,10 +28,10 @@ or_byte x a b k e h l =
     ap₂ bit_or e (shl_exact 8 k 64 h l) ∙ or_shifted a (8 + k) (b * 2 ^ k) (shl_lt 8 k h)
     ∙ ap (λ (y : ℕ). a * y + b * 2 ^ k) (pow-add 2 8 k) ∙ ap (λ (y : ℕ). y + b * 2 ^ k) (sym (mul_assoc a 256 (2 ^ k))) ∙ sym (add-mul (a * 256) b (2 ^ k))
 
-bits-byte : (n x b : ℕ) (l : List ℕ) → b < 256 → wordBits n x ≡ unpack l → wordBits (n + 8) (x * 256 + b) ≡ unpack (l ++ (b ∷ []))
+bits-byte : (n x b : ℕ) (l : List ℕ) → b < 256 → word_bits n x ≡ unpack l → word_bits (n + 8) (x * 256 + b) ≡ unpack (l ++ (b ∷ []))
 unfolding unpack flatten
 bits-byte n x b l h e =
-    words-join n 8 x b h ∙ ap₂ (λ (u v : List Bool). u ++ v) e (sym (append-nil (wordBits 8 b))) ∙ sym (unpack-append l (b ∷ []))
+    words-join n 8 x b h ∙ ap₂ (λ (u v : List Bool). u ++ v) e (sym (append-nil (word_bits 8 b))) ∙ sym (unpack-append l (b ∷ []))
 
 -- n elements from i + j on
 abbrev elements : List ℕ → ℕ → ℕ → ℕ → List ℕ
@@ -51,7 +51,7 @@ IsByte s k x = (x ≡ get_or s k 0) × (x < 256)
 
 module _ (s : List ℕ) (i : ℕ) (within : i + 8 ≤ length s) {a b c d e f g h : ℕ} where
   pub word-bits : IsByte s i a → IsByte s (i + 1) b → IsByte s (i + 2) c → IsByte s (i + 3) d → IsByte s (i + 4) e → IsByte s (i + 5) f → IsByte s (i + 6) g → IsByte s (i + 7) h
-      → wordBits 64 (bit_or (bit_or (bit_or (bit_or (bit_or (bit_or (bit_or (a * 2 ^ 56 % 2 ^ 64) (b * 2 ^ 48 % 2 ^ 64)) (c * 2 ^ 40 % 2 ^ 64)) (d * 2 ^ 32 % 2 ^ 64)) (e * 2 ^ 24 % 2 ^ 64)) (f * 2 ^ 16 % 2 ^ 64)) (g * 2 ^ 8 % 2 ^ 64)) h)
+      → word_bits 64 (bit_or (bit_or (bit_or (bit_or (bit_or (bit_or (bit_or (a * 2 ^ 56 % 2 ^ 64) (b * 2 ^ 48 % 2 ^ 64)) (c * 2 ^ 40 % 2 ^ 64)) (d * 2 ^ 32 % 2 ^ 64)) (e * 2 ^ 24 % 2 ^ 64)) (f * 2 ^ 16 % 2 ^ 64)) (g * 2 ^ 8 % 2 ^ 64)) h)
       ≡ unpack (take 8 (drop i s))
   unfolding unpack flatten
   word-bits pa pb pc pd pe pf pg ph =
@@ -68,7 +68,7 @@ module _ (s : List ℕ) (i : ℕ) (within : i + 8 ≤ length s) {a b c d e f g h
       let m5 = or_byte _ abcd e 24 m4 pe.1 (omega arith) in
       let m6 = or_byte _ to-e f 16 m5 pf.1 (omega arith) in
       let m7 = or_byte _ to-f g 8 m6 pg.1 (omega arith) in
-      let w1 : wordBits 8 a ≡ unpack (a ∷ []) = sym (append-nil (wordBits 8 a)) in
+      let w1 : word_bits 8 a ≡ unpack (a ∷ []) = sym (append-nil (word_bits 8 a)) in
       let w2 = bits-byte 8 a b (a ∷ []) pb.1 w1 in
       let w3 = bits-byte 16 ab c (a ∷ b ∷ []) pc.1 w2 in
       let w4 = bits-byte 24 abc d (a ∷ b ∷ c ∷ []) pd.1 w3 in
@@ -78,7 +78,7 @@ module _ (s : List ℕ) (i : ℕ) (within : i + 8 ≤ length s) {a b c d e f g h
       let w8 = bits-byte 56 to-g h (a ∷ b ∷ c ∷ d ∷ e ∷ f ∷ g ∷ []) ph.1 w7 in
       let start : i + 0 ≡ i = add-zero i in
       let these : a ∷ b ∷ c ∷ d ∷ e ∷ f ∷ g ∷ h ∷ [] ≡ elements s i 0 8 = cc in
-      ap (wordBits 64) (ap (λ (x : ℕ). bit_or x h) m7 ∙ or_shifted to-g 8 h ph.1) ∙ w8
+      ap (word_bits 64) (ap (λ (x : ℕ). bit_or x h) m7 ∙ or_shifted to-g 8 h ph.1) ∙ w8
       ∙ ap unpack (these ∙ sym (elements-of s i 0 8 (omega arith)) ∙ ap (λ (k : ℕ). take 8 (drop k s)) start)
 
 -- ## Ones
@@ -91,9 +91,9 @@ count-append v (x ∷ a) b = omega (arith, count-append v a b)
 pub count-le : (v : Bool) (b : List Bool) → count v b ≤ length b
 unfolding count
 count-le v [] = omega arith
-count-le v (a ∷ b) = omega (arith, count-le v b, bit-value-le (sameBit v a))
+count-le v (a ∷ b) = omega (arith, count-le v b, bit-value-le (same_bit v a))
   where
-    bit-value-le : (a : Bool) → bitValue a ≤ 1
+    bit-value-le : (a : Bool) → bit_value a ≤ 1
     bit-value-le false = omega arith
     bit-value-le true = omega arith
 
@@ -120,8 +120,8 @@ none-zeros (true ∷ b) e = absurd (omega arith)
 pub count-few : (s : List ℕ) (q : ℕ) → count true (unpack (take q s)) ≤ 8 * q
 count-few s q = omega (arith, count-le true (unpack (take q s)), unpack-length (take q s), length-take q s)
 
-count_low : (n x : ℕ) → count true (wordBits n x) ≡ ones (x % 2 ^ n)
-unfolding count wordBits ones ones_in
+count_low : (n x : ℕ) → count true (word_bits n x) ≡ ones (x % 2 ^ n)
+unfolding count word_bits ones ones_in
 count_low zero x = let z : x % 1 ≡ 0 = omega arith in sym (ap ones z)
 count_low (suc n) x =
     let e : 1 + n ≡ suc n = omega arith in
@@ -129,7 +129,7 @@ count_low (suc n) x =
     ∙ sym (ones_cat n (x / 2 ^ n % 2) (x % 2 ^ n) (mod-lt x (pow_pos n))) ∙ ap ones (sym (mod-pow-add x 1 n) ∙ ap (λ (k : ℕ). x % 2 ^ k) e)
 
 -- the ones of a word, as the machine counts them
-pub count_word : (n x : ℕ) → x < 2 ^ n → count true (wordBits n x) ≡ ones x
+pub count_word : (n x : ℕ) → x < 2 ^ n → count true (word_bits n x) ≡ ones x
 count_word n x h = count_low n x ∙ ap ones (mod-eq_of_lt h)
 
 -- between two places
@@ -137,7 +137,7 @@ pub count-between : (v : Bool) (a k : ℕ) (b : List Bool) → count v (take (a 
 count-between v a k b = ap (count v) (take-add a k b) ∙ count-append v (take a b) (take k (drop a b))
 
 -- n bytes more, read as the number r
-pub count-bytes : (n : ℕ) (s : List ℕ) (i r : ℕ) → r < 2 ^ (8 * n) → wordBits (8 * n) r ≡ unpack (take n (drop i s))
+pub count-bytes : (n : ℕ) (s : List ℕ) (i r : ℕ) → r < 2 ^ (8 * n) → word_bits (8 * n) r ≡ unpack (take n (drop i s))
     → count true (unpack (take (i + n) s)) ≡ count true (unpack (take i s)) + ones r
 count-bytes n s i r h e =
     ap (λ (l : List ℕ). count true (unpack l)) (take-add i n s) ∙ ap (count true) (unpack-append (take i s) (take n (drop i s)))
@@ -157,8 +157,8 @@ count-part s e h b =
     let j : ℕ = e % 8 in
     let n : 8 * q + j ≡ e = omega arith in
     let x : get_or (drop q s) 0 0 ≡ get_or s q 0 = get_or-drop q s 0 0 ∙ ap (λ (k : ℕ). get_or s k 0) (add-zero q) in
-    let first : wordBits j (get_or s q 0 / 2 ^ (8 - j)) ≡ take j (drop (8 * q) (unpack s)) =
-    ap (λ (x : ℕ). wordBits j (x / 2 ^ (8 - j))) (sym x) ∙ first-bits (drop q s) j (omega arith) (omega (arith, length-drop q s)) ∙ ap (take j) (unpack-drop s q) in
+    let first : word_bits j (get_or s q 0 / 2 ^ (8 - j)) ≡ take j (drop (8 * q) (unpack s)) =
+    ap (λ (x : ℕ). word_bits j (x / 2 ^ (8 - j))) (sym x) ∙ first-bits (drop q s) j (omega arith) (omega (arith, length-drop q s)) ∙ ap (take j) (unpack-drop s q) in
     ap₂ (λ (u v : ℕ). u + v) (ap (count true) (unpack-take s q))
     (sym (count_word j (get_or s q 0 / 2 ^ (8 - j)) (high-below (get_or s q 0) j (omega arith) b)) ∙ ap (count true) first)
     ∙ sym (count-between true (8 * q) j (unpack s)) ∙ ap (λ (k : ℕ). count true (take k (unpack s))) n

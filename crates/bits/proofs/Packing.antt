@@ -10,7 +10,7 @@ use native.Mathlib.Decide.{dec_le}
 use lib.ListN.{length, take, drop, replicate, replicate-append-replicate}
 use lib.Seq.{drop_at, get_or-drop}
 use lib.Pow.{mod-pow-add}
-use Rattle.bits.specs.Bits.{wordBits, unpack, word_of, bytes_of, byte_count, pack, padding, Bytes}
+use Rattle.bits.specs.Bits.{word_bits, unpack, word_of, bytes_of, byte_count, pack, padding, Bytes}
 use Rattle.bits.specs.Leaves.{fit}
 use Rattle.bits.proofs.Words.{words-length, words-cons, words-zero, bit-value}
 use Rattle.bits.proofs.Bytes.{unpack-length}
@@ -35,7 +35,7 @@ pack-length b = bytes-length (byte_count (length b)) b
 -- ## Unpacking what was packed
 
 -- the bits of a number are those that made it
-pub bits-of-word : (n : ℕ) (b : List Bool) → wordBits n (word_of n b) ≡ fit n b
+pub bits-of-word : (n : ℕ) (b : List Bool) → word_bits n (word_of n b) ≡ fit n b
 unfolding fit word_of
 bits-of-word zero b = words-zero 0
 bits-of-word (suc n) [] = words-zero (suc n) ∙ sym (fit-nil (suc n))
@@ -80,8 +80,8 @@ pack-apart a b e =
 
 -- ## Packing what was unpacked
 
-pub word-of-bits : (n x : ℕ) (t : List Bool) → word_of n (wordBits n x ++ t) ≡ x % 2 ^ n
-unfolding word_of wordBits
+pub word-of-bits : (n x : ℕ) (t : List Bool) → word_of n (word_bits n x ++ t) ≡ x % 2 ^ n
+unfolding word_of word_bits
 word-of-bits zero x t = omega arith
 word-of-bits (suc n) x t =
     let e : 1 + n ≡ suc n = omega arith in
@@ -93,7 +93,7 @@ bytes-unpack [] h = refl
 bytes-unpack (b ∷ s) h =
     ap₂ (λ (x : ℕ) (l : List ℕ). x ∷ l)
     (word-of-bits 8 b (unpack s) ∙ mod-eq_of_lt (h 0))
-    (ap (bytes_of (length s)) (drop_at (wordBits 8 b) (unpack s) 8 (words-length 8 b)) ∙ bytes-unpack s (λ i. h (suc i)))
+    (ap (bytes_of (length s)) (drop_at (word_bits 8 b) (unpack s) 8 (words-length 8 b)) ∙ bytes-unpack s (λ i. h (suc i)))
 
 -- Packing the bits of bytes gives the bytes
 pub pack-unpack : (s : List ℕ) → Bytes s → pack (unpack s) ≡ s

@@ -10,8 +10,8 @@ use lib.Seq.{take_at, take_all, take-take, drop_at, drop-drop, length-take-le, t
 use lib.Pow.{shl_exact, pow-add}
 use lib.Bits.{bit_or, or_shifted}
 use lib.Arith.{digits_lt}
-use Rattle.bits.specs.Bits.{Bytes, wordBits, unpack, bytes_of, byte_count, pack, padding}
-use Rattle.bits.specs.Leaves.{putTo, put_at, fit}
+use Rattle.bits.specs.Bits.{Bytes, word_bits, unpack, bytes_of, byte_count, pack, padding}
+use Rattle.bits.specs.Leaves.{put_to, put_at, fit}
 use Rattle.bits.proofs.Words.{words-length, words-split, words-join, words-padded}
 use Rattle.bits.proofs.Bytes.{unpack-append, unpack-length, unpack-drop, high-below, top-bits, first-bits}
 use Rattle.bits.proofs.Fit.{fit-long}
@@ -20,16 +20,16 @@ use Rattle.bits.proofs.Packing.{unpack-bytes, unpack-pack, word-of-bits, bytes-a
 -- ## The bytes of a word
 
 abbrev pub word_bytes : ℕ → ℕ → List ℕ
-word_bytes n w = bytes_of n (wordBits (8 * n) w)
+word_bytes n w = bytes_of n (word_bits (8 * n) w)
 
 word-bytes : (n w : ℕ) → word_bytes (suc n) w ≡ (w / 2 ^ (8 * n) % 256) ∷ word_bytes n w
 unfolding bytes_of
 word-bytes n w =
     let e : 8 * suc n ≡ 8 + 8 * n = omega arith in
-    let h : List Bool = wordBits 8 (w / 2 ^ (8 * n)) in
-    ap (λ (k : ℕ). bytes_of (suc n) (wordBits k w)) e ∙ ap (bytes_of (suc n)) (words-split 8 (8 * n) w)
-    ∙ ap₂ (λ (x : ℕ) (l : List Bool). x ∷ bytes_of n l) (word-of-bits 8 (w / 2 ^ (8 * n)) (wordBits (8 * n) w))
-    (drop_at h (wordBits (8 * n) w) 8 (words-length 8 (w / 2 ^ (8 * n))))
+    let h : List Bool = word_bits 8 (w / 2 ^ (8 * n)) in
+    ap (λ (k : ℕ). bytes_of (suc n) (word_bits k w)) e ∙ ap (bytes_of (suc n)) (words-split 8 (8 * n) w)
+    ∙ ap₂ (λ (x : ℕ) (l : List Bool). x ∷ bytes_of n l) (word-of-bits 8 (w / 2 ^ (8 * n)) (word_bits (8 * n) w))
+    (drop_at h (word_bits (8 * n) w) 8 (words-length 8 (w / 2 ^ (8 * n))))
 
 pub word-length : (n w : ℕ) → length (word_bytes n w) ≡ n
 word-length zero w = unfold bytes_of in refl
@@ -45,23 +45,23 @@ word_byte (suc n) w (suc i) h =
     ap (λ (l : List ℕ). get_or l (suc i) 0) (word-bytes n w) ∙ word_byte n w i (omega arith) ∙ ap (λ (k : ℕ). w / 2 ^ (8 * k) % 256) e
 
 -- written out, from the highest
-abbrev pub bytesDown : ℕ → ℕ → List ℕ
-bytesDown zero w = []
-bytesDown (suc n) w = (w / 2 ^ (8 * n) % 256) ∷ bytesDown n w
+abbrev pub bytes_down : ℕ → ℕ → List ℕ
+bytes_down zero w = []
+bytes_down (suc n) w = (w / 2 ^ (8 * n) % 256) ∷ bytes_down n w
 
-word-down : (n w : ℕ) → bytesDown n w ≡ word_bytes n w
+word-down : (n w : ℕ) → bytes_down n w ≡ word_bytes n w
 word-down zero w = unfold bytes_of in refl
 word-down (suc n) w = ap (λ (l : List ℕ). (w / 2 ^ (8 * n) % 256) ∷ l) (word-down n w) ∙ sym (word-bytes n w)
 
 -- stored one by one
-pub word-stored : (s : List ℕ) (w : ℕ) → 8 ≤ length s → sets s 0 (bytesDown 8 w) ≡ word_bytes 8 w ++ drop 8 s
-word-stored s w h = sets-eq (bytesDown 8 w) s 0 h ∙ ap (λ (l : List ℕ). l ++ drop 8 s) (word-down 8 w)
+pub word-stored : (s : List ℕ) (w : ℕ) → 8 ≤ length s → sets s 0 (bytes_down 8 w) ≡ word_bytes 8 w ++ drop 8 s
+word-stored s w h = sets-eq (bytes_down 8 w) s 0 h ∙ ap (λ (l : List ℕ). l ++ drop 8 s) (word-down 8 w)
 
-pub unpack-word : (n w : ℕ) → unpack (word_bytes n w) ≡ wordBits (8 * n) w
+pub unpack-word : (n w : ℕ) → unpack (word_bytes n w) ≡ word_bits (8 * n) w
 unpack-word n w =
-    let e : 8 * n ≡ length (wordBits (8 * n) w) + 0 = omega (arith, words-length (8 * n) w) in
-    unpack-bytes n (wordBits (8 * n) w) ∙ ap (λ (k : ℕ). fit k (wordBits (8 * n) w)) e ∙ fit-long (wordBits (8 * n) w) 0
-    ∙ append-nil (wordBits (8 * n) w)
+    let e : 8 * n ≡ length (word_bits (8 * n) w) + 0 = omega (arith, words-length (8 * n) w) in
+    unpack-bytes n (word_bits (8 * n) w) ∙ ap (λ (k : ℕ). fit k (word_bits (8 * n) w)) e ∙ fit-long (word_bits (8 * n) w) 0
+    ∙ append-nil (word_bits (8 * n) w)
 
 -- ## A word after the first bits of a buffer
 
@@ -77,26 +77,26 @@ shifted o len pad kept word hk hw h =
 -- put together by shifts: a byte with the word after its first bits
 pub joined-bits : (first o word len width : ℕ)
     → (o < 8) × (1 ≤ len) × (len ≤ 56) × (word < 2 ^ len) × (8 ≤ width) × (o + len ≤ width) × (width ≤ 64) → {b : ℕ} → (b ≡ first) × (b < 256)
-    → wordBits width (bit_or (b / 2 ^ (8 - o) * 2 ^ len % 2 ^ 64) word * 2 ^ (width - (o + len)) % 2 ^ 64) ≡ putTo o (wordBits len word) width (wordBits 8 first)
-unfolding putTo
+    → word_bits width (bit_or (b / 2 ^ (8 - o) * 2 ^ len % 2 ^ 64) word * 2 ^ (width - (o + len)) % 2 ^ 64) ≡ put_to o (word_bits len word) width (word_bits 8 first)
+unfolding put_to
 joined-bits first o word len width fits {b} (e, h) =
     let pad : ℕ = width - (o + len) in
     let kept : ℕ = b / 2 ^ (8 - o) in
     let n : width ≡ o + len + pad = omega arith in
-    let none : drop width (wordBits 8 first) ≡ [] = drop_of_length-le (wordBits 8 first) {i = width} (omega (arith, words-length 8 first)) in
-    ap (wordBits width) (shifted o len pad kept word (high-below b o (omega arith) h) fits.3 (omega arith))
-    ∙ ap (λ (k : ℕ). wordBits k ((kept * 2 ^ len + word) * 2 ^ pad)) n ∙ words-padded (o + len) pad (kept * 2 ^ len + word)
+    let none : drop width (word_bits 8 first) ≡ [] = drop_of_length-le (word_bits 8 first) {i = width} (omega (arith, words-length 8 first)) in
+    ap (word_bits width) (shifted o len pad kept word (high-below b o (omega arith) h) fits.3 (omega arith))
+    ∙ ap (λ (k : ℕ). word_bits k ((kept * 2 ^ len + word) * 2 ^ pad)) n ∙ words-padded (o + len) pad (kept * 2 ^ len + word)
     ∙ ap (λ (l : List Bool). l ++ replicate pad false)
     (words-join o len kept word fits.3
-    ∙ ap (λ (l : List Bool). l ++ wordBits len word) (ap (λ (x : ℕ). wordBits o (x / 2 ^ (8 - o))) e ∙ top-bits first o (omega arith)))
+    ∙ ap (λ (l : List Bool). l ++ word_bits len word) (ap (λ (x : ℕ). word_bits o (x / 2 ^ (8 - o))) e ∙ top-bits first o (omega arith)))
     ∙ rw (words-length len word, none) (simp (append_assoc, append-nil))
 
 -- put into the first byte as a word, and stored over the first bytes: put into the buffer
 pub put-stored : (s ys : List ℕ) (o c w : ℕ) (new : List Bool) → o < 8 → 1 ≤ c → 1 ≤ length s
-    → wordBits (8 * c) w ≡ putTo o new (8 * c) (wordBits 8 (get_or s 0 0)) → ys ≡ word_bytes c w ++ drop c s → unpack ys ≡ putTo o new (8 * c) (unpack s)
-unfolding putTo
+    → word_bits (8 * c) w ≡ put_to o new (8 * c) (word_bits 8 (get_or s 0 0)) → ys ≡ word_bytes c w ++ drop c s → unpack ys ≡ put_to o new (8 * c) (unpack s)
+unfolding put_to
 put-stored s ys o c w new h k i e y =
-    let b : List Bool = wordBits 8 (get_or s 0 0) in
+    let b : List Bool = word_bits 8 (get_or s 0 0) in
     let none : drop (8 * c) b ≡ [] = drop_of_length-le b {i = 8 * c} (omega (arith, words-length 8 (get_or s 0 0))) in
     let first : take o b ≡ take o (unpack s) = sym (top-bits (get_or s 0 0) o (omega arith)) ∙ first-bits s o (omega arith) i in
     ap unpack y ∙ unpack-append (word_bytes c w) (drop c s)
@@ -106,8 +106,8 @@ put-stored s ys o c w new h k i e y =
 -- ## Through a part of the buffer
 
 -- putting after whole bytes is putting into what follows them
-put-after : (front old new : List Bool) (o e : ℕ) → front ++ putTo o new e old ≡ putTo (length front + o) new (length front + e) (front ++ old)
-unfolding putTo
+put-after : (front old new : List Bool) (o e : ℕ) → front ++ put_to o new e old ≡ put_to (length front + o) new (length front + e) (front ++ old)
+unfolding put_to
 put-after front old new o e =
     let p : length front + e - (length front + o + length new) ≡ e - (o + length new) = omega arith in
     sym (ap₂ (λ (u v : List Bool). u ++ (new ++ v)) (take-append-add front old o)
@@ -115,8 +115,8 @@ put-after front old new o e =
     ∙ simp append_assoc)
 
 pub put-within : (s ys : List ℕ) (at e : ℕ) (new : List Bool) → at / 8 ≤ length s
-    → unpack ys ≡ putTo (at % 8) new e (unpack (take (length s - at / 8) (drop (at / 8) s)))
-    → unpack (take (at / 8) s ++ (ys ++ drop (length s - at / 8) (drop (at / 8) s))) ≡ putTo at new (8 * (at / 8) + e) (unpack s)
+    → unpack ys ≡ put_to (at % 8) new e (unpack (take (length s - at / 8) (drop (at / 8) s)))
+    → unpack (take (at / 8) s ++ (ys ++ drop (length s - at / 8) (drop (at / 8) s))) ≡ put_to at new (8 * (at / 8) + e) (unpack s)
 put-within s ys at e new h q =
     let k : ℕ = at / 8 in
     let all : take (length s - k) (drop k s) ≡ drop k s = take_all (length s - k) (drop k s) (omega (arith, length-drop k s)) in
@@ -126,7 +126,7 @@ put-within s ys at e new h q =
     let w : unpack s ≡ unpack (take k s) ++ unpack (drop k s) = ap unpack (sym (take-append-drop k s)) ∙ unpack-append (take k s) (drop k s) in
     unpack-append (take k s) (ys ++ drop (length s - k) (drop k s))
     ∙ ap (λ (l : List Bool). unpack (take k s) ++ l)
-    (ap (λ (l : List ℕ). unpack (ys ++ l)) none ∙ ap unpack (append-nil ys) ∙ q ∙ ap (λ (l : List ℕ). putTo (at % 8) new e (unpack l)) all)
+    (ap (λ (l : List ℕ). unpack (ys ++ l)) none ∙ ap unpack (append-nil ys) ∙ q ∙ ap (λ (l : List ℕ). put_to (at % 8) new e (unpack l)) all)
     ∙ put-after (unpack (take k s)) (unpack (drop k s)) new (at % 8) e
     ∙ rw (f, n, w)
 
@@ -136,7 +136,7 @@ pub put-part : (s ys : List ℕ) (at : ℕ) (new : List Bool) → at / 8 ≤ len
 unfolding put_at
 put-part s ys at new h q =
     let e : 8 * (at / 8) + 8 * byte_count (at % 8 + length new) ≡ 8 * byte_count (at + length new) = omega arith in
-    put-within s ys at (8 * byte_count (at % 8 + length new)) new h q ∙ ap (λ (n : ℕ). putTo at new n (unpack s)) e
+    put-within s ys at (8 * byte_count (at % 8 + length new)) new h q ∙ ap (λ (n : ℕ). put_to at new n (unpack s)) e
 
 -- ## One after the other
 
@@ -150,8 +150,8 @@ filled_none e old = (refl, refl)
 
 -- what is written over behind the bits is written again
 pub filled_more : (a b : List Bool) (e d : ℕ) (now old : List Bool) → Filled a e now old → 8 * byte_count (length a + length b) ≤ d → d ≤ e
-    → Filled (a ++ b) e (putTo (length a) b d now) old
-unfolding putTo padding
+    → Filled (a ++ b) e (put_to (length a) b d now) old
+unfolding put_to padding
 filled_more a b e d now old f h k =
     let n : ℕ = length a + length b in
     let c : ℕ = 8 * byte_count n in
@@ -163,7 +163,7 @@ filled_more a b e d now old f h k =
     ap (λ (i : ℕ). replicate i false) apart ∙ sym (replicate-append-replicate (c - n) (d - c) false) in
     let front : List Bool = (a ++ b) ++ replicate (c - n) false in
     let lf : length front ≡ c = omega (arith, length-append (a ++ b) (replicate (c - n) false), length-replicate (c - n) false) in
-    let whole : putTo (length a) b d now ≡ front ++ (replicate (d - c) false ++ drop d now) = rw (first, zeros) (simp append_assoc) in
+    let whole : put_to (length a) b d now ≡ front ++ (replicate (d - c) false ++ drop d now) = rw (first, zeros) (simp append_assoc) in
     let le : e ≡ length (front ++ replicate (d - c) false) + (e - d) =
     omega (arith, length-append front (replicate (d - c) false), length-replicate (d - c) false) in
     let m : d + (e - d) ≡ e = omega arith in (
@@ -174,7 +174,7 @@ filled_more a b e d now old f h k =
     )
 
 pub filled-end : (new now old : List Bool) → Filled new (8 * byte_count (length new)) now old → now ≡ put_at 0 new old
-unfolding put_at putTo padding
+unfolding put_at put_to padding
 filled-end new now old f =
     let c : ℕ = 8 * byte_count (length new) in
     sym (take-append-drop c now) ∙ ap₂ (λ (u v : List Bool). u ++ v) f.0 f.1 ∙ rw zero-add (append_assoc new _ (drop c old))
@@ -185,7 +185,7 @@ filled-end new now old f =
 pub put-packed : (s ys : List ℕ) (n : ℕ) (new : List Bool) → n ≤ 8 * length s → Bytes s → Bytes ys → unpack ys ≡ put_at n new (unpack s)
     → let b : List Bool = take n (unpack s) ++ new in
     ys ≡ pack b ++ drop (length (pack b)) s
-unfolding put_at putTo padding
+unfolding put_at put_to padding
 put-packed s ys n new h bs by e =
     let b : List Bool = take n (unpack s) ++ new in
     let l : length b ≡ n + length new = length-append (take n (unpack s)) new ∙ ap (λ (k : ℕ). k + length new) (length-take-le n (unpack s) (omega (arith, unpack-length s))) in

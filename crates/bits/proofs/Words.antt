@@ -12,7 +12,7 @@ use lib.Bits.{bit_and, bit_or, and_mask, and_shr, or_shr, and_step, or_step}
 use native.Mathlib.Decide.{ℕ_discrete}
 use lib.Dec.{eqb, eqb-suc-suc}
 use borrow.Author.Tests.{eq-eqb, ne_eqb}
-use Rattle.bits.specs.Bits.{bit_of, wordBits, bitValue}
+use Rattle.bits.specs.Bits.{bit_of, word_bits, bit_value}
 
 -- ## One bit
 
@@ -62,9 +62,9 @@ digit P a b x = go (x % 2) (omega arith)
     go (suc zero) h = b
     go (suc (suc d)) h = absurd (omega arith)
 
-pub bit-value : (x k : ℕ) → bitValue (bit_of x k) ≡ x / 2 ^ k % 2
+pub bit-value : (x k : ℕ) → bit_value (bit_of x k) ≡ x / 2 ^ k % 2
 unfolding bit_of
-bit-value x k = digit (λ d. bitValue (eqb d 1) ≡ d) refl refl (x / 2 ^ k)
+bit-value x k = digit (λ d. bit_value (eqb d 1) ≡ d) refl refl (x / 2 ^ k)
 
 -- the complement of a word
 pub bit_not : (n k x : ℕ) → k < n → x < 2 ^ n → bit_of (2 ^ n - 1 - x) k ≡ not (bit_of x k)
@@ -109,44 +109,44 @@ bit-or = bit-op bit_or max ◌||◌ or_shr (λ x y. omega (arith, or_step x y)) 
 
 -- ## The bits of a word
 
-pub words-at : (n x i : ℕ) → i < n → get_or (wordBits n x) i false ≡ bit_of x (n - 1 - i)
-unfolding wordBits
+pub words-at : (n x i : ℕ) → i < n → get_or (word_bits n x) i false ≡ bit_of x (n - 1 - i)
+unfolding word_bits
 words-at zero x i h = absurd (omega arith)
 words-at (suc n) x zero h = ap (bit_of x) (omega arith)
 words-at (suc n) x (suc i) h = words-at n x i (omega arith) ∙ ap (bit_of x) (omega arith)
 
-pub words-length : (n x : ℕ) → length (wordBits n x) ≡ n
-unfolding wordBits
+pub words-length : (n x : ℕ) → length (word_bits n x) ≡ n
+unfolding word_bits
 words-length zero x = refl
 words-length (suc n) x = ap suc (words-length n x)
 
 -- a word y that differs from x in its bit p alone
 module _ (n x y p : ℕ) (v : Bool) (within : p < n) (new : bit_of y p ≡ v) (same : (k : ℕ) → k < n → (p ≡ k → ⊥) → bit_of y k ≡ bit_of x k) where
-  words-set : wordBits n y ≡ set (wordBits n x) (n - 1 - p) v
+  words-set : word_bits n y ≡ set (word_bits n x) (n - 1 - p) v
   words-set =
-      ext_get_or false (wordBits n y) (set (wordBits n x) (n - 1 - p) v)
-      (words-length n y ∙ sym (length-set (wordBits n x) (n - 1 - p) v ∙ words-length n x)) (λ i h. at i (omega (arith, words-length n y)))
+      ext_get_or false (word_bits n y) (set (word_bits n x) (n - 1 - p) v)
+      (words-length n y ∙ sym (length-set (word_bits n x) (n - 1 - p) v ∙ words-length n x)) (λ i h. at i (omega (arith, words-length n y)))
     where
-      at : (i : ℕ) → i < n → get_or (wordBits n y) i false ≡ get_or (set (wordBits n x) (n - 1 - p) v) i false
+      at : (i : ℕ) → i < n → get_or (word_bits n y) i false ≡ get_or (set (word_bits n x) (n - 1 - p) v) i false
       at i h =
           elim (ℕ_discrete i (n - 1 - p)) [
             | yes e ↦
                 let k : n - 1 - i ≡ p = omega arith in
                 words-at n y i h ∙ ap (bit_of y) k ∙ new
-                ∙ sym (rw e (get_or-set_same (wordBits n x) (n - 1 - p) v false (omega (arith, words-length n x))))
+                ∙ sym (rw e (get_or-set_same (word_bits n x) (n - 1 - p) v false (omega (arith, words-length n x))))
             | no d ↦
                 words-at n y i h ∙ same (n - 1 - i) (omega arith) (λ e. d (omega arith)) ∙ sym (words-at n x i h)
-                ∙ sym (get_or-set_other (wordBits n x) (n - 1 - p) i v false d)
+                ∙ sym (get_or-set_other (word_bits n x) (n - 1 - p) i v false d)
           ]
 
 -- a bit set, and a bit cleared, by a mask
-pub words-or : (n x p : ℕ) → p < n → wordBits n (bit_or x (2 ^ p)) ≡ set (wordBits n x) (n - 1 - p) true
+pub words-or : (n x p : ℕ) → p < n → word_bits n (bit_or x (2 ^ p)) ≡ set (word_bits n x) (n - 1 - p) true
 words-or n x p h =
     words-set n x (bit_or x (2 ^ p)) p true h
     (bit-or x (2 ^ p) p ∙ rw (bit-pow p p, eq-eqb p p refl) (or-true (bit_of x p)))
     (λ k i d. bit-or x (2 ^ p) k ∙ rw (bit-pow p k, ne_eqb p k d) (or-false (bit_of x k)))
 
-pub words-and-not : (n x p : ℕ) → p < n → wordBits n (bit_and x (2 ^ n - 1 - 2 ^ p)) ≡ set (wordBits n x) (n - 1 - p) false
+pub words-and-not : (n x p : ℕ) → p < n → word_bits n (bit_and x (2 ^ n - 1 - 2 ^ p)) ≡ set (word_bits n x) (n - 1 - p) false
 words-and-not n x p h =
     words-set n x (bit_and x (2 ^ n - 1 - 2 ^ p)) p false h
     (bit-and x (2 ^ n - 1 - 2 ^ p) p ∙ rw (bit_not n p (2 ^ p) h (pow-lt h), bit-pow p p, eq-eqb p p refl) (and-false (bit_of x p)))
@@ -155,40 +155,40 @@ words-and-not n x p h =
 -- ## Two words, one after the other
 
 -- the high bits, and the others
-pub words-split : (a b x : ℕ) → wordBits (a + b) x ≡ wordBits a (x / 2 ^ b) ++ wordBits b x
-unfolding wordBits
+pub words-split : (a b x : ℕ) → word_bits (a + b) x ≡ word_bits a (x / 2 ^ b) ++ word_bits b x
+unfolding word_bits
 words-split zero b x = rw zero-add
 words-split (suc a) b x =
-    ap (λ (n : ℕ). wordBits n x) (suc-add a b)
+    ap (λ (n : ℕ). word_bits n x) (suc-add a b)
     ∙ ap₂ (λ (v : Bool) (l : List Bool). v ∷ l) (ap (bit_of x) (add_comm a b) ∙ sym (bit-shr x b a)) (words-split a b x)
 
-pub words-mod : (n b x : ℕ) → n ≤ b → wordBits n (x % 2 ^ b) ≡ wordBits n x
-unfolding wordBits
+pub words-mod : (n b x : ℕ) → n ≤ b → word_bits n (x % 2 ^ b) ≡ word_bits n x
+unfolding word_bits
 words-mod zero b x h = refl
 words-mod (suc n) b x h = ap₂ (λ (v : Bool) (l : List Bool). v ∷ l) (bit-mod x b n h) (words-mod n b x (omega arith))
 
-pub words-join : (a b x y : ℕ) → y < 2 ^ b → wordBits (a + b) (x * 2 ^ b + y) ≡ wordBits a x ++ wordBits b y
+pub words-join : (a b x y : ℕ) → y < 2 ^ b → word_bits (a + b) (x * 2 ^ b + y) ≡ word_bits a x ++ word_bits b y
 words-join a b x y h =
     words-split a b (x * 2 ^ b + y)
-    ∙ ap₂ (λ (u v : List Bool). u ++ v) (ap (wordBits a) (high x b h))
-    (sym (words-mod b b (x * 2 ^ b + y) (omega arith)) ∙ ap (wordBits b) (low x b h))
+    ∙ ap₂ (λ (u v : List Bool). u ++ v) (ap (word_bits a) (high x b h))
+    (sym (words-mod b b (x * 2 ^ b + y) (omega arith)) ∙ ap (word_bits b) (low x b h))
 
 -- a bit on top of a word
-pub words-cons : (a : Bool) (n x : ℕ) → x < 2 ^ n → wordBits (suc n) (bitValue a * 2 ^ n + x) ≡ a ∷ wordBits n x
+pub words-cons : (a : Bool) (n x : ℕ) → x < 2 ^ n → word_bits (suc n) (bit_value a * 2 ^ n + x) ≡ a ∷ word_bits n x
 words-cons a n x h =
     let e : suc n ≡ 1 + n = omega arith in
-    ap (λ (k : ℕ). wordBits k (bitValue a * 2 ^ n + x)) e ∙ words-join 1 n (bitValue a) x h ∙ ap (λ (l : List Bool). l ++ wordBits n x) (one a)
+    ap (λ (k : ℕ). word_bits k (bit_value a * 2 ^ n + x)) e ∙ words-join 1 n (bit_value a) x h ∙ ap (λ (l : List Bool). l ++ word_bits n x) (one a)
   where
-    one : (a : Bool) → wordBits 1 (bitValue a) ≡ a ∷ []
-    one false = unfold wordBits bit_of in refl
-    one true = unfold wordBits bit_of in refl
+    one : (a : Bool) → word_bits 1 (bit_value a) ≡ a ∷ []
+    one false = unfold word_bits bit_of in refl
+    one true = unfold word_bits bit_of in refl
 
-pub words-zero : (n : ℕ) → wordBits n 0 ≡ replicate n false
-unfolding wordBits
+pub words-zero : (n : ℕ) → word_bits n 0 ≡ replicate n false
+unfolding word_bits
 words-zero zero = refl
 words-zero (suc n) = ap₂ (λ (v : Bool) (l : List Bool). v ∷ l) (bit-zero n) (words-zero n)
 
 -- a word, and zeros
-pub words-padded : (a b x : ℕ) → wordBits (a + b) (x * 2 ^ b) ≡ wordBits a x ++ replicate b false
+pub words-padded : (a b x : ℕ) → word_bits (a + b) (x * 2 ^ b) ≡ word_bits a x ++ replicate b false
 words-padded a b x =
-    ap (wordBits (a + b)) (sym (add-zero (x * 2 ^ b))) ∙ words-join a b x 0 (pow_pos b) ∙ ap (λ (l : List Bool). wordBits a x ++ l) (words-zero b)
+    ap (word_bits (a + b)) (sym (add-zero (x * 2 ^ b))) ∙ words-join a b x 0 (pow_pos b) ∙ ap (λ (l : List Bool). word_bits a x ++ l) (words-zero b)

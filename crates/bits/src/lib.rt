@@ -1,6 +1,6 @@
 // A byte slice as a list of bits, the top bit of each byte first.
 ghost use Rattle.std.specs.Prelude.{◌≡◌, false, ◌+◌, ◌-◌, ◌≤◌, ◌<◌, length, take, drop, get_or, set};
-ghost use Rattle.bits.specs.Bits.{wordBits, unpack};
+ghost use Rattle.bits.specs.Bits.{word_bits, unpack};
 
 // Bit k of the slice; false past its end.
 pub fn bit(s: &[u8], k: usize) -> bool
@@ -19,7 +19,7 @@ pub fn bit(s: &[u8], k: usize) -> bool
 // The byte b with its bit of value 2 ^ low set to v, with no branch by v. Requires: low is below 8, which `set_bit` shows.
 fn with_bit(b: u8, low: usize, v: bool) -> u8
     requires { low < 8 }
-    ensures { wordBits 8 result ≡ set (wordBits 8 b) (7 - low) v }
+    ensures { word_bits 8 result ≡ set (word_bits 8 b) (7 - low) v }
 {
     let mask: u8 = 1 << low;
     b & !mask | (v as u8) << low
@@ -47,7 +47,7 @@ pub fn wide(x: u8) -> u64
 // words tests.
 pub fn word(s: &[u8], i: usize) -> u64
     requires { i + 8 ≤ length s.now }
-    ensures { wordBits 64 result ≡ unpack (take 8 (drop i s.now)) }
+    ensures { word_bits 64 result ≡ unpack (take 8 (drop i s.now)) }
 {
     wide(s[i]) << 56
         | wide(s[i + 1]) << 48

@@ -9,44 +9,44 @@ use lib.ListN.{get_or}
 use borrow.Author.Tests.{leb-true}
 use Rattle.lists.proofs.Lists.{values-at}
 use Rattle.fibonacci.specs.Code.{past, F, value}
-use Rattle.calls.specs.Limits.{maxNumber}
-use Rattle.fibonacci.specs.Leaves.{numberOrZero}
-use Rattle.fibonacci.proofs.Numeration.{sumDown, F-suc, sumDown-suc, sumDown-zero, sumDown-none, F-rises}
+use Rattle.calls.specs.Limits.{max_number}
+use Rattle.fibonacci.specs.Leaves.{number_or_zero}
+use Rattle.fibonacci.proofs.Numeration.{sum_down, F-suc, sum_down-suc, sum_down-zero, sum_down-none, F-rises}
 use Rattle.fibonacci.proofs.Lookup.{number-kept}
-use Rattle.byte_table.specs.Leaves.{twoBack, positionWords, moved, value0, value1, value2}
+use Rattle.byte_table.specs.Leaves.{two_back, position_words, moved, value0, value1, value2}
 
 -- ## The table of position values
 
 -- as far as the table goes they are small
-back-small : (n : ℕ) → n < 40 → twoBack n ≤ maxNumber
-unfolding twoBack
+back-small : (n : ℕ) → n < 40 → two_back n ≤ max_number
+unfolding two_back
 back-small zero h = omega arith
 back-small (suc zero) h = omega arith
 back-small (suc (suc n)) h =
-    let last : F 3 37 ≤ maxNumber = unfold F past in leb-true (F 3 37) maxNumber refl in
+    let last : F 3 37 ≤ max_number = unfold F past in leb-true (F 3 37) max_number refl in
     omega (arith, F-rises 3 (omega arith) {j = n} {k = 37} (omega arith), last)
 
-pub position_at : (n : ℕ) → n < 40 → get_or positionWords n 0 ≡ twoBack n
-unfolding positionWords
-position_at n h = values-at (λ n. numberOrZero (twoBack n)) 0 40 n 0 h ∙ ap (λ (n : ℕ). numberOrZero (twoBack n)) (zero-add n) ∙ number-kept (twoBack n) (back-small n h)
+pub position_at : (n : ℕ) → n < 40 → get_or position_words n 0 ≡ two_back n
+unfolding position_words
+position_at n h = values-at (λ n. number_or_zero (two_back n)) 0 40 n 0 h ∙ ap (λ (n : ℕ). number_or_zero (two_back n)) (zero-add n) ∙ number-kept (two_back n) (back-small n h)
 
 -- ## One position value
 
 -- the recurrence of order 3, from negative places on
-back-next : (n : ℕ) → twoBack (suc (suc (suc n))) ≡ twoBack (suc (suc n)) + twoBack (suc n) + twoBack n
-unfolding twoBack
+back-next : (n : ℕ) → two_back (suc (suc (suc n))) ≡ two_back (suc (suc n)) + two_back (suc n) + two_back n
+unfolding two_back
 back-next zero = unfold F past in refl
 back-next (suc zero) = unfold F past in refl
 back-next (suc (suc n)) =
-    omega (arith, F-suc 3 (suc (suc n)), sumDown-suc 3 (suc n) 2, sumDown-suc 3 n 1, alone n)
+    omega (arith, F-suc 3 (suc (suc n)), sum_down-suc 3 (suc n) 2, sum_down-suc 3 n 1, alone n)
   where
-    alone : (n : ℕ) → sumDown 3 n 1 ≡ F 3 n
-    alone zero = sumDown-zero 3 1 (omega arith) ∙ (unfold F past in refl)
-    alone (suc n) = omega (arith, sumDown-suc 3 n 0, sumDown-none 3 n)
+    alone : (n : ℕ) → sum_down 3 n 1 ≡ F 3 n
+    alone zero = sum_down-zero 3 1 (omega arith) ∙ (unfold F past in refl)
+    alone (suc n) = omega (arith, sum_down-suc 3 n 0, sum_down-none 3 n)
 
 -- F(l + j) for j from 1 up
-F-moved : (l j : ℕ) → F 3 (l + suc j) ≡ moved l (F 3 (suc j)) (F 3 j + twoBack (suc j)) (F 3 j)
-unfolding moved twoBack
+F-moved : (l j : ℕ) → F 3 (l + suc j) ≡ moved l (F 3 (suc j)) (F 3 j + two_back (suc j)) (F 3 j)
+unfolding moved two_back
 F-moved zero j =
     let one : F 3 0 ≡ 1 = unfold F past in refl in
     ap (F 3) (zero-add (suc j)) ∙ rw one (omega arith)
@@ -61,16 +61,16 @@ F-moved (suc l) j =
 earlier : ℕ → List Bool → ℕ
 earlier j [] = 0
 earlier j (false ∷ b) = earlier (suc j) b
-earlier j (true ∷ b) = twoBack (suc j) + earlier (suc j) b
+earlier j (true ∷ b) = two_back (suc j) + earlier (suc j) b
 
 earlier-suc : (j : ℕ) (b : List Bool) → earlier (suc j) b ≡ value 3 j b
-unfolding value earlier twoBack
+unfolding value earlier two_back
 earlier-suc j [] = refl
 earlier-suc j (false ∷ b) = earlier-suc (suc j) b
 earlier-suc j (true ∷ b) = ap (λ (v : ℕ). F 3 j + v) (earlier-suc (suc j) b)
 
 earlier-first : (b : List Bool) → earlier 0 b ≡ value2 b
-unfolding earlier value twoBack
+unfolding earlier value two_back
 earlier-first [] = refl
 earlier-first (false ∷ b) = earlier-suc 0 b
 earlier-first (true ∷ b) = omega (arith, earlier-suc 0 b)
@@ -82,13 +82,13 @@ moved_sum l x y z x' y' z' = simp mul-add (omega arith)
 
 value-moved : (l j : ℕ) (b : List Bool) → value 3 (l + suc j) b ≡ moved l (value 3 (suc j) b) (value 3 j b + earlier j b) (value 3 j b)
 unfolding value earlier
-value-moved l j [] = unfold moved in omega (arith, mul-zero (F 3 l), mul-zero (twoBack (suc l)), mul-zero (twoBack l))
+value-moved l j [] = unfold moved in omega (arith, mul-zero (F 3 l), mul-zero (two_back (suc l)), mul-zero (two_back l))
 value-moved l j (false ∷ b) =
     let e : suc (l + suc j) ≡ l + suc (suc j) = omega arith in
     ap (λ (k : ℕ). value 3 k b) e ∙ value-moved l (suc j) b
 value-moved l j (true ∷ b) =
     let e : suc (l + suc j) ≡ l + suc (suc j) = omega arith in
-    let y : F 3 j + twoBack (suc j) + (value 3 (suc j) b + earlier (suc j) b) ≡ F 3 j + value 3 (suc j) b + (twoBack (suc j) + earlier (suc j) b) = omega arith in
+    let y : F 3 j + two_back (suc j) + (value 3 (suc j) b + earlier (suc j) b) ≡ F 3 j + value 3 (suc j) b + (two_back (suc j) + earlier (suc j) b) = omega arith in
     rw (ap (λ (k : ℕ). value 3 k b) e, value-moved l (suc j) b, F-moved l j)
     (moved_sum l _ _ _ _ _ _ ∙ ap (λ (v : ℕ). moved l (F 3 (suc j) + value 3 (suc (suc j)) b) v (F 3 j + value 3 (suc j) b)) y)
 

@@ -1,6 +1,6 @@
 // The table of the table decoder: what each byte, after 0, 1 or 2 ones, does to a pending codeword of order 3.
 ghost use Rattle.std.specs.Prelude.{◌≡◌, ◌+◌, ◌*◌, ◌^◌, ◌<◌};
-ghost use Rattle.byte_table.specs.Leaves.{headWords, tailWords, positionWords, moved, IsRow, Movable};
+ghost use Rattle.byte_table.specs.Leaves.{head_words, tail_words, position_words, moved, IsRow, Movable};
 
 mod tables;
 
@@ -34,26 +34,26 @@ pub struct Row {
 
 // The tables, which a caller takes once and looks rows up in: the rows' two words, and the position values.
 pub fn heads() -> [u32; 768]
-    ensures { result ≡ headWords }
+    ensures { result ≡ head_words }
 {
     HEADS
 }
 
 pub fn tails() -> [u32; 768]
-    ensures { result ≡ tailWords }
+    ensures { result ≡ tail_words }
 {
     TAILS
 }
 
 pub fn positions_from_minus_two() -> [u32; 40]
-    ensures { result ≡ positionWords }
+    ensures { result ≡ position_words }
 {
     POSITIONS_FROM_MINUS_TWO
 }
 
 // The row at 256 for each trailing one, plus the byte. Requires: the tables from above and at most two ones, which the table scan shows.
 pub fn look_up(heads: &[u32; 768], tails: &[u32; 768], at: usize) -> Row
-    requires { (heads.now ≡ headWords) × (tails.now ≡ tailWords) × (at < 768) }
+    requires { (heads.now ≡ head_words) × (tails.now ≡ tail_words) × (at < 768) }
     ensures { IsRow at result }
 {
     let head = heads[at];

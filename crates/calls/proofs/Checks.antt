@@ -13,7 +13,7 @@ use borrow.Author.Tests.{le-leb, lt-leb, leb-true, le-ltb, ltb-false, ne_eqb, eq
 use Rattle.lists.specs.Lists.{All}
 use Rattle.calls.specs.declared.Refusal.{Refusal}
 use Rattle.calls.specs.Calls.{Outcome, accepted, refused, check, and_then}
-use Rattle.calls.specs.Limits.{within, is_order, Order, is_number, Legal, isOutside, checkEach}
+use Rattle.calls.specs.Limits.{within, is_order, Order, is_number, Legal, is_outside, check_each}
 
 -- ## One number
 
@@ -49,28 +49,28 @@ unfolding is_number
 above-number limit n p h = simp (le-leb 1 n p, lt-leb n limit h)
 
 -- a number is legal, or it is outside
-pub number-inside : (limit n : ℕ) → is_number limit n ≡ true → isOutside limit n ≡ false
-unfolding isOutside
+pub number-inside : (limit n : ℕ) → is_number limit n ≡ true → is_outside limit n ≡ false
+unfolding is_outside
 number-inside limit n e = let h = number_is limit n e in simp (ne_eqb n 0 (λ z. omega arith), le-ltb limit n h.1)
 
-pub inside-number : (limit n : ℕ) → isOutside limit n ≡ false → is_number limit n ≡ true
-unfolding isOutside
+pub inside-number : (limit n : ℕ) → is_outside limit n ≡ false → is_number limit n ≡ true
+unfolding is_outside
 inside-number limit n e =
     let p = neither (eqb n 0) (ltb limit n) e in
     let some : n ≡ 0 → ⊥ = eqb-false n 0 p.0 in
     is-number limit n (elim (dec_le 1 n) [ yes h ↦ h | no h ↦ absurd (some (omega arith)) ]) (ltb-false limit n p.1)
 
-pub number-outside : (limit n : ℕ) → is_number limit n ≡ false → isOutside limit n ≡ true
-number-outside limit n e = go (isOutside limit n) refl
+pub number-outside : (limit n : ℕ) → is_number limit n ≡ false → is_outside limit n ≡ true
+number-outside limit n e = go (is_outside limit n) refl
   where
-    go : (v : Bool) → isOutside limit n ≡ v → v ≡ true
+    go : (v : Bool) → is_outside limit n ≡ v → v ≡ true
     go true d = refl
     go false d = absurd (false≢true (sym e ∙ inside-number limit n d))
 
-pub outside-is : (limit n : ℕ) → not (is_number limit n) ≡ isOutside limit n
+pub outside-is : (limit n : ℕ) → not (is_number limit n) ≡ is_outside limit n
 outside-is limit n = go (is_number limit n) refl
   where
-    go : (v : Bool) → is_number limit n ≡ v → not v ≡ isOutside limit n
+    go : (v : Bool) → is_number limit n ≡ v → not v ≡ is_outside limit n
     go true e = sym (number-inside limit n e)
     go false e = sym (number-outside limit n e)
 
@@ -145,27 +145,27 @@ told-refused (refused q) f r e = sym (refused-same e)
 -- ## Each number of a row
 
 pub each-passed : {A : Type 0} (fault : ℕ → Refusal) (limit place : ℕ) (row : List ℕ) (next : Outcome A) → Legal limit row
-    → checkEach fault limit place row next ≡ next
-unfolding checkEach
+    → check_each fault limit place row next ≡ next
+unfolding check_each
 each-passed fault limit place [] next a = refl
 each-passed fault limit place (n ∷ row) next a = rw (number-inside limit n a.0) (each-passed fault limit (suc place) row next a.1)
 
 pub each-accepted : {A : Type 0} (fault : ℕ → Refusal) (limit place : ℕ) (row : List ℕ) (next : Outcome A) (x : A)
-    → checkEach fault limit place row next ≡ accepted x → Legal limit row × (next ≡ accepted x)
-unfolding checkEach
+    → check_each fault limit place row next ≡ accepted x → Legal limit row × (next ≡ accepted x)
+unfolding check_each
 each-accepted fault limit place [] next x e = (tt, e)
 each-accepted fault limit place (n ∷ row) next x e =
-    let p = check-passed (fault place) (isOutside limit n) _ x e in
+    let p = check-passed (fault place) (is_outside limit n) _ x e in
     let r = each-accepted fault limit (suc place) row next x p.1 in
     ((inside-number limit n p.0, r.0), r.1)
 
 -- a refusal does not hang on what comes after
 pub each-refused : {A B : Type 0} (fault : ℕ → Refusal) (limit place : ℕ) (row : List ℕ) (x : A) (r : Refusal) (next : Outcome B)
-    → checkEach fault limit place row (accepted x) ≡ refused r → checkEach fault limit place row next ≡ refused r
-unfolding checkEach
+    → check_each fault limit place row (accepted x) ≡ refused r → check_each fault limit place row next ≡ refused r
+unfolding check_each
 each-refused fault limit place [] x r next e = absurd (not-both (sym e))
 each-refused fault limit place (n ∷ row) x r next e =
-    either (fault place) (isOutside limit n) _ _ r (each-refused fault limit (suc place) row x r next) e
+    either (fault place) (is_outside limit n) _ _ r (each-refused fault limit (suc place) row x r next) e
 
 -- number by number, with n at place i
 module _ (fault : ℕ → Refusal) (limit : ℕ) (row : List ℕ) (i n : ℕ) (h : i < length row) (e : n ≡ get_or row i 0) where
@@ -173,10 +173,10 @@ module _ (fault : ℕ → Refusal) (limit : ℕ) (row : List ℕ) (i n : ℕ) (h
   left = drop-next row i 0 h e
 
   pub each_more : {A : Type 0} (next : Outcome A) → is_number limit n ≡ true
-      → checkEach fault limit i (drop i row) next ≡ checkEach fault limit (i + 1) (drop (i + 1) row) next
-  unfolding checkEach
+      → check_each fault limit i (drop i row) next ≡ check_each fault limit (i + 1) (drop (i + 1) row) next
+  unfolding check_each
   each_more next q = rw (left, number-inside limit n q, add-one)
 
-  pub each-fault : {A : Type 0} (next : Outcome A) → is_number limit n ≡ false → checkEach fault limit i (drop i row) next ≡ refused (fault i)
-  unfolding checkEach
+  pub each-fault : {A : Type 0} (next : Outcome A) → is_number limit n ≡ false → check_each fault limit i (drop i row) next ≡ refused (fault i)
+  unfolding check_each
   each-fault next q = rw (left, number-outside limit n q)

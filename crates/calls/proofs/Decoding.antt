@@ -12,8 +12,8 @@ use Rattle.calls.specs.declared.Refusal.{Refusal}
 use Rattle.calls.specs.declared.Refusal.TheVariants.{TooManyBytes, TooManyCodewords, NoRoom, TooLarge}
 use Rattle.calls.specs.declared.CountAnswer.{CountAnswer}
 use Rattle.calls.specs.declared.CountAnswer.TheVariants.{Count, Refused}
-use Rattle.calls.specs.Calls.{Outcome, accepted, refused, answerResults, check, and_then, buffer, countOutcome}
-use Rattle.calls.specs.Limits.{Legal, maxCount}
+use Rattle.calls.specs.Calls.{Outcome, accepted, refused, answer_results, check, and_then, buffer, count_outcome}
+use Rattle.calls.specs.Limits.{Legal, max_count}
 use Rattle.calls.specs.Reading.{Code, contents, decode, counted}
 use Rattle.calls.specs.Leaves.{counting, Begins, Scanned, Holds, delivered, Delivers}
 use Rattle.calls.proofs.Checks.{not-both, accepted-one, check-passed, then-passed}
@@ -22,43 +22,43 @@ use Rattle.calls.proofs.Finished.{finished-all, finished-many, finished-large, f
 -- ## The check of the length
 
 module _ (c : Code) (limit : ℕ) (s : List ℕ) where
-  pub decode-long : c.byteLimit < length s → decode c limit s ≡ refused TooManyBytes
+  pub decode-long : c.byte_limit < length s → decode c limit s ≡ refused TooManyBytes
   unfolding decode
-  decode-long h = simp (lt-ltb c.byteLimit (length s) h)
+  decode-long h = simp (lt-ltb c.byte_limit (length s) h)
 
-  pub decode-contents : length s ≤ c.byteLimit → decode c limit s ≡ contents c limit s
+  pub decode-contents : length s ≤ c.byte_limit → decode c limit s ≡ contents c limit s
   unfolding decode
-  decode-contents h = simp (le-ltb c.byteLimit (length s) h)
+  decode-contents h = simp (le-ltb c.byte_limit (length s) h)
 
 -- ## What the contents are refused for
 
 -- The numbers `done` have passed their checks, and what comes after them decides
 module _ (c : Code) (limit : ℕ) (s done : List ℕ) (legal : Legal limit done) where
-  pub contents-many : (x : ℕ) (more : List ℕ) → c.numbers s ≡ done ++ (x ∷ more) → length done ≡ maxCount → contents c limit s ≡ refused TooManyCodewords
+  pub contents-many : (x : ℕ) (more : List ℕ) → c.numbers s ≡ done ++ (x ∷ more) → length done ≡ max_count → contents c limit s ≡ refused TooManyCodewords
   unfolding contents
   contents-many x more e l = rw e (finished-many limit done legal _ x more l)
 
-  pub contents-large : (x : ℕ) (more : List ℕ) → c.numbers s ≡ done ++ (x ∷ more) → length done < maxCount → limit < x
+  pub contents-large : (x : ℕ) (more : List ℕ) → c.numbers s ≡ done ++ (x ∷ more) → length done < max_count → limit < x
       → contents c limit s ≡ refused (TooLarge (length done))
   unfolding contents
   contents-large x more e l n = rw e (finished-large limit done legal _ x more l n)
 
-  pub contents-past : (more : List ℕ) → c.numbers s ≡ done ++ more → maxCount < length done → contents c limit s ≡ refused TooManyCodewords
+  pub contents-past : (more : List ℕ) → c.numbers s ≡ done ++ more → max_count < length done → contents c limit s ≡ refused TooManyCodewords
   unfolding contents
   contents-past more e l = rw e (finished-past limit 0 done more _ legal (omega arith) (omega arith))
 
   -- no codeword is left, and what remains decides
-  pub contents-end : c.numbers s ≡ done → length done ≤ maxCount → contents c limit s ≡ check c.fault (c.unfinished s) (accepted done)
+  pub contents-end : c.numbers s ≡ done → length done ≤ max_count → contents c limit s ≡ check c.fault (c.unfinished s) (accepted done)
   unfolding contents
   contents-end e l = rw e (finished-all limit done _ legal l)
 
 -- ## What is known of an encoding that is read
 
 pub record Decoded (c : Code) (limit : ℕ) (s row : List ℕ) : Type 0 where
-  pub bytes : length s ≤ c.byteLimit
+  pub bytes : length s ≤ c.byte_limit
   pub is : row ≡ c.numbers s
   pub legal : Legal limit row
-  pub long : length row ≤ maxCount
+  pub long : length row ≤ max_count
   pub finished : c.unfinished s ≡ false
 
 module _ (c : Code) (limit : ℕ) (s row : List ℕ) where
@@ -66,12 +66,12 @@ module _ (c : Code) (limit : ℕ) (s row : List ℕ) where
   pub decode_is : All (λ n. 1 ≤ n) (c.numbers s) → decode c limit s ≡ accepted row → Decoded c limit s row
   unfolding decode contents
   decode_is positive e =
-      let p2 = check-passed TooManyBytes (ltb c.byteLimit (length s)) _ row e in
+      let p2 = check-passed TooManyBytes (ltb c.byte_limit (length s)) _ row e in
       let p47 = finished-passed limit 0 (c.numbers s) _ row positive (omega arith) p2.1 in
       let p6 = check-passed c.fault (c.unfinished s) _ row p47.2 in
       let same : row ≡ c.numbers s = accepted-one (sym p6.1) in
       record {
-        bytes = ltb-false c.byteLimit (length s) p2.0;
+        bytes = ltb-false c.byte_limit (length s) p2.0;
         is = same;
         legal = rw same p47.0;
         long = rw same (omega (arith, p47.1));
@@ -96,24 +96,24 @@ counted-all (accepted row) room = refl
 counted-all (refused r) room = refl
 
 written : (t : Bool) (row list before : List ℕ) → take (length row) list ≡ row
-    → let o = check NoRoom t (accepted (length row)) in buffer o (take (answerResults 0 o) list) before ≡ buffer o row before
+    → let o = check NoRoom t (accepted (length row)) in buffer o (take (answer_results 0 o) list) before ≡ buffer o row before
 written true row list before e = refl
 written false row list before e = rw e refl
 
 written_all : (d : Outcome (List ℕ)) (room : ℕ) (list before ns : List ℕ) → Begins d list → ((row : List ℕ) → d ≡ accepted row → row ≡ ns)
-    → let o = and_then d (counted room) in buffer o (take (answerResults 0 o) list) before ≡ buffer o ns before
+    → let o = and_then d (counted room) in buffer o (take (answer_results 0 o) list) before ≡ buffer o ns before
 written_all (accepted row) room list before ns b is = rw (← is row refl) (written (ltb room (length row)) row list before b)
 written_all (refused r) room list before ns b is = refl
 
 -- a row that a scan stored in a list, delivered, is what reading answers and leaves, where ns is all that the scan can find
 delivered-row : (d : Outcome (List ℕ)) (ns before list after : List ℕ) (scanned a : CountAnswer) → ((row : List ℕ) → d ≡ accepted row → row ≡ ns)
     → Scanned d scanned list → Delivers scanned list before a after
-    → let o = and_then d (counted (length before)) in (countOutcome a ≡ o) × (after ≡ buffer o ns before)
+    → let o = and_then d (counted (length before)) in (count_outcome a ≡ o) × (after ≡ buffer o ns before)
 delivered-row d ns before list after scanned a is f w =
-    let same : countOutcome a ≡ and_then d (counted (length before)) =
+    let same : count_outcome a ≡ and_then d (counted (length before)) =
     w.0 ∙ ap (λ (x : Outcome ℕ). delivered x (length before)) f.0 ∙ counted-all d (length before) in (
       same,
-      w.1 ∙ ap (λ (x : Outcome ℕ). buffer x (take (answerResults 0 x) list) before) same ∙ written_all d (length before) list before ns f.1 is,
+      w.1 ∙ ap (λ (x : Outcome ℕ). buffer x (take (answer_results 0 x) list) before) same ∙ written_all d (length before) list before ns f.1 is,
     )
 
 -- ## A call that checks what it was asked for, and reads
@@ -145,7 +145,7 @@ module _ (r : Refusal) (good : Bool) (c : Code) (limit : ℕ) (s : List ℕ) whe
           rw (g, e, ← (decode_is c limit s row positive e).is) (simp (le-ltb (length before) (length row) h) (refl, refl))
 
       pub called-delivered : (list after : List ℕ) (scanned a : CountAnswer) → Scanned (decode c limit s) scanned list → Delivers scanned list before a after
-          → (countOutcome a ≡ called (length before)) × (after ≡ leaves before)
+          → (count_outcome a ≡ called (length before)) × (after ≡ leaves before)
       called-delivered list after scanned a f w =
           rw g (delivered-row (decode c limit s) (c.numbers s) before list after scanned a (λ row e. (decode_is c limit s row positive e).is) f w)
 

@@ -11,17 +11,17 @@ pub data Outcome (A : Type 0) : Type 0 where
   refused : Refusal → Outcome A
 
 -- An accepted call answers 0 and its results. A refusal answers its number and its place; all other results are those given for none: zeros
-abbrev pub answerNumber : {A : Type 0} → Outcome A → ℕ
-answerNumber (accepted x) = 0
-answerNumber (refused r) = (reason r).0
+abbrev pub answer_number : {A : Type 0} → Outcome A → ℕ
+answer_number (accepted x) = 0
+answer_number (refused r) = (reason r).0
 
-abbrev pub answerPlace : {A : Type 0} → Outcome A → ℕ
-answerPlace (accepted x) = 0
-answerPlace (refused r) = (reason r).1
+abbrev pub answer_place : {A : Type 0} → Outcome A → ℕ
+answer_place (accepted x) = 0
+answer_place (refused r) = (reason r).1
 
-abbrev pub answerResults : {A : Type 0} → A → Outcome A → A
-answerResults none (accepted x) = x
-answerResults none (refused r) = none
+abbrev pub answer_results : {A : Type 0} → A → Outcome A → A
+answer_results none (accepted x) = x
+answer_results none (refused r) = none
 
 -- A check refuses where it fails; else what comes after it decides
 abbrev pub check : {A : Type 0} → Refusal → Bool → Outcome A → Outcome A
@@ -39,6 +39,6 @@ buffer (accepted x) written before = written ++ drop (length written) before
 buffer (refused r) written before = before
 
 -- The answer of a call whose one result is a count
-abbrev pub countOutcome : CountAnswer → Outcome ℕ
-countOutcome (Count n) = accepted n
-countOutcome (Refused r) = refused r
+abbrev pub count_outcome : CountAnswer → Outcome ℕ
+count_outcome (Count n) = accepted n
+count_outcome (Refused r) = refused r

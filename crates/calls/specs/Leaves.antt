@@ -3,7 +3,7 @@ use Rattle.std.specs.Prelude.{◌≡◌, List, ℕ, ◌≤◌, ltb, length, take
 use Rattle.calls.specs.declared.Refusal.TheVariants.{NoRoom}
 use Rattle.calls.specs.declared.CountAnswer.{CountAnswer}
 use Rattle.calls.specs.declared.CountAnswer.TheVariants.{Count, Refused}
-use Rattle.calls.specs.Calls.{Outcome, accepted, refused, answerResults, check, and_then, buffer, countOutcome}
+use Rattle.calls.specs.Calls.{Outcome, accepted, refused, answer_results, check, and_then, buffer, count_outcome}
 
 -- How many numbers the row has that is found
 abbrev pub counting : Outcome (List ℕ) → Outcome ℕ
@@ -16,7 +16,7 @@ Begins (refused r) list = Unit {0}
 
 -- What a scan that finds this answers, and leaves in its list
 abbrev pub Scanned : Outcome (List ℕ) → CountAnswer → List ℕ → Type 0
-Scanned found a list = (countOutcome a ≡ counting found) × Begins found list
+Scanned found a list = (count_outcome a ≡ counting found) × Begins found list
 
 -- A list has at least as many elements as were counted
 abbrev pub Holds : CountAnswer → ℕ → Type 0
@@ -29,4 +29,4 @@ delivered scanned room = and_then scanned (λ n. check NoRoom (ltb room n) (acce
 
 abbrev pub Delivers : CountAnswer → List ℕ → List ℕ → CountAnswer → List ℕ → Type 0
 Delivers scanned list before a after =
-    (countOutcome a ≡ delivered (countOutcome scanned) (length before)) × (after ≡ buffer (countOutcome a) (take (answerResults 0 (countOutcome a)) list) before)
+    (count_outcome a ≡ delivered (count_outcome scanned) (length before)) × (after ≡ buffer (count_outcome a) (take (answer_results 0 (count_outcome a)) list) before)

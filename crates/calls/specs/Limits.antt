@@ -25,21 +25,21 @@ abbrev pub Legal : ℕ → List ℕ → Type 0
 Legal limit row = All (λ n. is_number limit n ≡ true) row
 
 -- The largest number of a row, how many numbers a row has at most, and how many bytes their encoding has at most, in any order
-abbrev pub maxNumber : ℕ
-maxNumber = 4294967295
+abbrev pub max_number : ℕ
+max_number = 4294967295
 
-abbrev pub maxCount : ℕ
-maxCount = 4096
+abbrev pub max_count : ℕ
+max_count = 4096
 
-abbrev pub maxBytes : ℕ
-maxBytes = 24064
+abbrev pub max_bytes : ℕ
+max_bytes = 24064
 
 -- 3 and 10: a number is 0 or above the limit
-unfoldable pub isOutside : ℕ → ℕ → Bool
-isOutside limit n = eqb n 0 || ltb limit n
+unfoldable pub is_outside : ℕ → ℕ → Bool
+is_outside limit n = eqb n 0 || ltb limit n
 
 -- The check of each number of a list from a place on; the first at fault decides
-unfoldable pub checkEach : {A : Type 0} → (ℕ → Refusal) → ℕ → ℕ → List ℕ → Outcome A → Outcome A
-checkEach fault limit place [] next = next
-checkEach fault limit place (n ∷ ns) next =
-    check (fault place) (isOutside limit n) (checkEach fault limit (suc place) ns next)
+unfoldable pub check_each : {A : Type 0} → (ℕ → Refusal) → ℕ → ℕ → List ℕ → Outcome A → Outcome A
+check_each fault limit place [] next = next
+check_each fault limit place (n ∷ ns) next =
+    check (fault place) (is_outside limit n) (check_each fault limit (suc place) ns next)

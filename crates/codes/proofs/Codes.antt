@@ -6,7 +6,7 @@ use mathlib.Core.Logic.{◌↔◌}
 use Prim.Native.Nat.{ℕ, ◌≤◌}
 use Rattle.lists.specs.Lists.{All}
 use Rattle.lists.proofs.Lists.{flatten-map-append}
-use Rattle.codes.specs.Rows.{Positive, rowString}
+use Rattle.codes.specs.Rows.{Positive, row_string}
 use Rattle.codes.specs.Parse.{Parse, parsed, codewords, rest, IsParse, prepend}
 use Rattle.codes.proofs.Parse.{onto, onto-codewords, onto-parsed}
 
@@ -31,13 +31,13 @@ all-positive number h (w ∷ ws) = (h w, all-positive number h ws)
 -- ## The string of a row
 
 module _ {A : Type 0} (codeword : ℕ → List A) where
-  pub string-append : (a b : List ℕ) → rowString codeword (a ++ b) ≡ rowString codeword a ++ rowString codeword b
+  pub string-append : (a b : List ℕ) → row_string codeword (a ++ b) ≡ row_string codeword a ++ row_string codeword b
   string-append a b = flatten-map-append codeword a b
 
   -- a number more
-  pub string-snoc : (row : List ℕ) (n : ℕ) → rowString codeword (row ++ (n ∷ [])) ≡ rowString codeword row ++ codeword n
+  pub string-snoc : (row : List ℕ) (n : ℕ) → row_string codeword (row ++ (n ∷ [])) ≡ row_string codeword row ++ codeword n
   unfolding flatten
-  string-snoc row n = string-append row (n ∷ []) ∙ ap (λ (b : List A). rowString codeword row ++ b) (append-nil (codeword n))
+  string-snoc row n = string-append row (n ∷ []) ∙ ap (λ (b : List A). row_string codeword row ++ b) (append-nil (codeword n))
 
 module _ {A : Type 0} {Codeword Rest : List A → Type 0} {codeword : ℕ → List A} {number : List A → ℕ} {parse : List A → Parse A}
     (c : IsCode Codeword Rest codeword number parse) where
@@ -64,7 +64,7 @@ module _ {A : Type 0} {Codeword Rest : List A → Type 0} {codeword : ℕ → Li
       ap (λ (x : List A). parse (x ++ t)) (sym i.joined) ∙ ap parse (append_assoc (flatten ws) r t) ∙ parse-flatten ws (r ++ t) i.coded
 
   -- a string is that of its numbers, and the rest
-  pub parse-string : (b : List A) (s : Parse A) → IsParse Codeword Rest b s → rowString codeword (map number (codewords s)) ++ rest s ≡ b
+  pub parse-string : (b : List A) (s : Parse A) → IsParse Codeword Rest b s → row_string codeword (map number (codewords s)) ++ rest s ≡ b
   parse-string b s i = ap (λ (ws : List (List A)). flatten ws ++ rest s) (same (codewords s) i.coded) ∙ i.joined
     where
       same : (ws : List (List A)) → All Codeword ws → map codeword (map number ws) ≡ ws
@@ -82,11 +82,11 @@ module _ {A : Type 0} {Codeword Rest : List A → Type 0} {codeword : ℕ → Li
   row-numbers (n ∷ row) h = ap₂ (λ (x : ℕ) (l : List ℕ). x ∷ l) (c.good n h.0).1 (row-numbers row h.1)
 
   -- with anything after it
-  pub row-parse : (row : List ℕ) (t : List A) → Positive row → parse (rowString codeword row ++ t) ≡ onto (map codeword row) (parse t)
+  pub row-parse : (row : List ℕ) (t : List A) → Positive row → parse (row_string codeword row ++ t) ≡ onto (map codeword row) (parse t)
   row-parse row t h = parse-flatten (map codeword row) t (row-coded row h)
 
   pub row_before : (row : List ℕ) (t : List A) → Positive row
-      → map number (codewords (parse (rowString codeword row ++ t))) ≡ row ++ map number (codewords (parse t))
+      → map number (codewords (parse (row_string codeword row ++ t))) ≡ row ++ map number (codewords (parse t))
   row_before row t h =
       ap (λ (s : Parse A). map number (codewords s)) (row-parse row t h)
       ∙ ap (map number) (onto-codewords (map codeword row) (parse t))
@@ -94,26 +94,26 @@ module _ {A : Type 0} {Codeword Rest : List A → Type 0} {codeword : ℕ → Li
       ∙ ap (λ (l : List ℕ). l ++ map number (codewords (parse t))) (row-numbers row h)
 
   -- with a rest after it
-  pub row-rest : (row : List ℕ) (r : List A) → Positive row → Rest r → parse (rowString codeword row ++ r) ≡ parsed (map codeword row) r
+  pub row-rest : (row : List ℕ) (r : List A) → Positive row → Rest r → parse (row_string codeword row ++ r) ≡ parsed (map codeword row) r
   row-rest row r h f = parse-joined (map codeword row) r (row-coded row h) f
 
   -- alone
-  pub row-alone : (row : List ℕ) → Positive row → parse (rowString codeword row) ≡ parsed (map codeword row) []
-  row-alone row h = ap parse (sym (append-nil (rowString codeword row))) ∙ row-rest row [] h c.none
+  pub row-alone : (row : List ℕ) → Positive row → parse (row_string codeword row) ≡ parsed (map codeword row) []
+  row-alone row h = ap parse (sym (append-nil (row_string codeword row))) ∙ row-rest row [] h c.none
 
-  pub row_read : (row : List ℕ) → Positive row → map number (codewords (parse (rowString codeword row))) ≡ row
+  pub row_read : (row : List ℕ) → Positive row → map number (codewords (parse (row_string codeword row))) ≡ row
   row_read row h = ap (λ (s : Parse A). map number (codewords s)) (row-alone row h) ∙ row-numbers row h
 
   -- ## One row and another
 
-  pub rows_apart : (a b : List ℕ) → Positive a → Positive b → rowString codeword a ≡ rowString codeword b → a ≡ b
+  pub rows_apart : (a b : List ℕ) → Positive a → Positive b → row_string codeword a ≡ row_string codeword b → a ≡ b
   rows_apart a b ha hb e = sym (row_read a ha) ∙ ap (λ (x : List A). map number (codewords (parse x))) e ∙ row_read b hb
 
-  pub rows-begin : (a b : List ℕ) → Positive a → Positive b → IsPrefix (rowString codeword a) (rowString codeword b) ↔ IsPrefix a b
-  rows-begin a b ha hb = (
-    λ (x : IsPrefix (rowString codeword a) (rowString codeword b)). (
+  pub rows_begin : (a b : List ℕ) → Positive a → Positive b → IsPrefix (row_string codeword a) (row_string codeword b) ↔ IsPrefix a b
+  rows_begin a b ha hb = (
+    λ (x : IsPrefix (row_string codeword a) (row_string codeword b)). (
       map number (codewords (parse x.0)),
       sym (row_before a x.0 ha) ∙ ap (λ (y : List A). map number (codewords (parse y))) x.1 ∙ row_read b hb,
     ),
-    λ (x : IsPrefix a b). (rowString codeword x.0, sym (string-append codeword a x.0) ∙ ap (rowString codeword) x.1),
+    λ (x : IsPrefix a b). (row_string codeword x.0, sym (string-append codeword a x.0) ∙ ap (row_string codeword) x.1),
   )

@@ -8,5 +8,5 @@ abbrev pub Positive : List ℕ → Type 0
 Positive row = All (λ n. 1 ≤ n) row
 
 -- The string of a row: its codewords without a gap
-abbrev pub rowString : {A : Type 0} → (ℕ → List A) → List ℕ → List A
-rowString codeword row = flatten (map codeword row)
+abbrev pub row_string : {A : Type 0} → (ℕ → List A) → List ℕ → List A
+row_string codeword row = flatten (map codeword row)

@@ -2,7 +2,7 @@
 ghost use Rattle.std.specs.Prelude.{◌≡◌, length};
 ghost use Rattle.bits.specs.Bits.{unpack};
 ghost use Rattle.bits.specs.Leaves.{put_at};
-ghost use Rattle.fibonacci.specs.Encoding.{rowBits};
+ghost use Rattle.fibonacci.specs.Encoding.{row_bits};
 ghost use Rattle.codewords.specs.Leaves.{Tables};
 ghost use Rattle.codeword_writer.specs.Leaves.{Fits};
 
@@ -18,7 +18,7 @@ pub fn put_row(
     row: &[u32],
 )
     requires { Tables order positions.now firsts.now low.now × Fits order row.now bytes (length out.old) }
-    ensures { unpack out.new ≡ put_at 0 (rowBits order row.now) (unpack out.old) }
+    ensures { unpack out.new ≡ put_at 0 (row_bits order row.now) (unpack out.old) }
 {
     let mut at: usize = 0;
     for i in 0..row.len() {

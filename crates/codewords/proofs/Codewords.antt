@@ -13,21 +13,21 @@ use lib.ListN.{length, get_or, replicate, get_or-replicate}
 use lib.Count.{count_leading_zeros, leading_top}
 use lib.Pow.{pow_pos, pow_mono, pow-add, shl_exact, shl-shr, ones_lt}
 use borrow.Author.Tests.{le-leb, lt-leb, leb-true}
-use Rattle.lists.specs.Lists.{valuesFrom}
+use Rattle.lists.specs.Lists.{values_from}
 use Rattle.lists.proofs.Lists.{values-at}
-use Rattle.bits.specs.Bits.{bitValue, wordBits, word_of}
+use Rattle.bits.specs.Bits.{bit_value, word_bits, word_of}
 use Rattle.bits.proofs.Words.{words-cons, words-join, words-zero}
 use Rattle.bits.specs.Leaves.{fit}
 use Rattle.bits.proofs.Fit.{fit-long}
 use Rattle.bits.proofs.Packing.{bits-of-word, word_below}
 use Rattle.fibonacci.specs.Code.{past, F, ones, first, size, digits, codeword}
 use Rattle.calls.proofs.Checks.{both}
-use Rattle.calls.specs.Limits.{maxNumber, Order}
-use Rattle.fibonacci.specs.Leaves.{numberOrZero}
-use Rattle.fibonacci.proofs.Numeration.{sumDown, F-suc, sumDown-suc, sumDown-zero, sumDown-none, digits-big, digits-small, digits_append, digits-length, F-rises, F-pos}
+use Rattle.calls.specs.Limits.{max_number, Order}
+use Rattle.fibonacci.specs.Leaves.{number_or_zero}
+use Rattle.fibonacci.proofs.Numeration.{sum_down, F-suc, sum_down-suc, sum_down-zero, sum_down-none, digits-big, digits-small, digits_append, digits-length, F-rises, F-pos}
 use Rattle.fibonacci.proofs.Numbers.{first-suc, first-rises, first_pos, F-first, codeword-size}
 use Rattle.fibonacci.proofs.Lookup.{each-order, codeword-bits, number-kept, number-zero}
-use Rattle.codewords.specs.Leaves.{rate, lowCount, low_word, lowDigits, HighDigits}
+use Rattle.codewords.specs.Leaves.{rate, low_count, low_word, low_digits, HighDigits}
 
 -- ## The bits before the last ones
 
@@ -35,21 +35,21 @@ use Rattle.codewords.specs.Leaves.{rate, lowCount, low_word, lowDigits, HighDigi
 near : ℕ → ℕ → Bool
 near m b = let d : ℕ = b * rate m / 8 in leb (first m d) (2 ^ b) && (leb (2 ^ suc b) (first m (d + 4)) && leb d 42)
 
-near-all : valuesFrom (λ m. valuesFrom (near m) 0 32) 2 5 ≡ replicate 5 (replicate 32 true)
+near-all : values_from (λ m. values_from (near m) 0 32) 2 5 ≡ replicate 5 (replicate 32 true)
 unfolding near rate first F past
 near-all = refl
 
 near-at : (m b : ℕ) → Order m → b < 32 → near m b ≡ true
 near-at m b o h =
     let k : 2 + (m - 2) ≡ m = omega arith in
-    let row : valuesFrom (near m) 0 32 ≡ replicate 32 true =
-    ap (λ (m : ℕ). valuesFrom (near m) 0 32) (sym k) ∙ sym (values-at (λ m. valuesFrom (near m) 0 32) 2 5 (m - 2) [] (omega arith))
+    let row : values_from (near m) 0 32 ≡ replicate 32 true =
+    ap (λ (m : ℕ). values_from (near m) 0 32) (sym k) ∙ sym (values-at (λ m. values_from (near m) 0 32) 2 5 (m - 2) [] (omega arith))
     ∙ ap (λ (l : List (List Bool)). get_or l (m - 2) []) near-all ∙ get_or-replicate 5 (m - 2) (replicate 32 true) [] (omega arith) in
     ap (near m) (sym (zero-add b)) ∙ sym (values-at (near m) 0 32 b true h) ∙ ap (λ (l : List Bool). get_or l b true) row
     ∙ get_or-replicate 32 b true true h
 
 -- so a guess by the leading zeros of n is near
-pub guess-near : (m n b : ℕ) → Order m → 1 ≤ n → n ≤ maxNumber → b ≡ 63 - count_leading_zeros 64 n
+pub guess-near : (m n b : ℕ) → Order m → 1 ≤ n → n ≤ max_number → b ≡ 63 - count_leading_zeros 64 n
     → (first m (b * rate m / 8) ≤ n) × (n < first m (b * rate m / 8 + 4)) × (b * rate m / 8 ≤ 42)
 unfolding near
 guess-near m n b o p l e =
@@ -68,17 +68,17 @@ unfolding rate
 rate-small m o = leb-true _ _ (each-order (λ m. leb (rate m) 11) true refl m o)
 
 -- a look-up tells whether a first number is reached
-pub reached-one : (m n d x : ℕ) → x ≡ numberOrZero (first m d) → (x ≡ 0 → ⊥) → x ≤ n → 1 ≡ bitValue (leb (first m d) n)
+pub reached-one : (m n d x : ℕ) → x ≡ number_or_zero (first m d) → (x ≡ 0 → ⊥) → x ≤ n → 1 ≡ bit_value (leb (first m d) n)
 reached-one m n d x e z l =
-    elim (dec_le (first m d) maxNumber) [
+    elim (dec_le (first m d) max_number) [
       | yes b ↦ let r : first m d ≤ n = omega (arith, number-kept _ b) in rw (le-leb _ _ r)
       | no b ↦ absurd (z (e ∙ number-zero _ (omega arith)))
     ]
 
-pub reached-none : (m n d x : ℕ) → n ≤ maxNumber → x ≡ numberOrZero (first m d) → (x ≡ 0) ⊎ (n < x) → 0 ≡ bitValue (leb (first m d) n)
+pub reached-none : (m n d x : ℕ) → n ≤ max_number → x ≡ number_or_zero (first m d) → (x ≡ 0) ⊎ (n < x) → 0 ≡ bit_value (leb (first m d) n)
 reached-none m n d x l e none =
     let above : n < first m d =
-    elim (dec_le (first m d) maxNumber) [
+    elim (dec_le (first m d) max_number) [
       | yes b ↦ ⊎_elim (λ (z : x ≡ 0). absurd (omega (arith, number-kept _ b, first_pos m d))) (λ (g : n < x). omega (arith, number-kept _ b)) none
       | no b ↦ omega arith
     ] in
@@ -86,13 +86,13 @@ reached-none m n d x l e none =
 
 -- and the guess, with one for each of the next three that is reached, is the length
 pub body_is : (m n d : ℕ) → Order m → 1 ≤ n → first m d ≤ n → n < first m (d + 4)
-    → d + bitValue (leb (first m (d + 1)) n) + bitValue (leb (first m (d + 2)) n) + bitValue (leb (first m (d + 3)) n) + m ≡ length (codeword m n)
+    → d + bit_value (leb (first m (d + 1)) n) + bit_value (leb (first m (d + 2)) n) + bit_value (leb (first m (d + 3)) n) + m ≡ length (codeword m n)
 body_is m n d o p a b =
     let s : ℕ = size m n n 0 in
     let w = codeword-size m n (omega arith) p in
     let low : d ≤ s = elim (dec_le d s) [ yes l ↦ l | no l ↦ absurd (omega (arith, first-rises m {j = suc s} {k = d} (omega arith))) ] in
     let high : s < d + 4 = elim (dec_le (d + 4) s) [ yes l ↦ absurd (omega (arith, first-rises m l)) | no l ↦ omega arith ] in
-    let one : (k : ℕ) → bitValue (leb (first m k) n) ≡ min 1 (suc s - k) =
+    let one : (k : ℕ) → bit_value (leb (first m k) n) ≡ min 1 (suc s - k) =
     λ k.
     elim (dec_le k s) [
       | yes l ↦ let r : first m k ≤ n = omega (arith, first-rises m l) in rw (le-leb _ _ r) (omega arith)
@@ -109,24 +109,24 @@ shifted-bit c k b h = shl_exact {a = c} 1 k 64 (omega arith) (omega arith)
 pub shifted_one : (k : ℕ) → k < 64 → 1 * 2 ^ k % 2 ^ 64 ≡ 2 ^ k
 shifted_one k h = shifted-bit 1 k (omega arith) h ∙ omega arith
 
-word_ones : (m : ℕ) → wordBits m (2 ^ m - 1) ≡ ones m
+word_ones : (m : ℕ) → word_bits m (2 ^ m - 1) ≡ ones m
 word_ones zero = words-zero 0
 word_ones (suc m) =
     let e : 2 ^ suc m - 1 ≡ 1 * 2 ^ m + (2 ^ m - 1) = omega (arith, two-pow-succ m, pow_pos m) in
-    ap (wordBits (suc m)) e ∙ words-cons true m (2 ^ m - 1) (ones_lt m) ∙ ap (λ (l : List Bool). true ∷ l) (word_ones m)
+    ap (word_bits (suc m)) e ∙ words-cons true m (2 ^ m - 1) (ones_lt m) ∙ ap (λ (l : List Bool). true ∷ l) (word_ones m)
 
 -- no position value is more than twice the one before it
-sumDown-more : (m n i : ℕ) → sumDown m n i ≤ sumDown m n (suc i)
-sumDown-more m n zero = omega (arith, sumDown-none m n)
-sumDown-more m zero (suc i) = omega (arith, sumDown-zero m (suc i) (omega arith), sumDown-zero m (suc (suc i)) (omega arith))
-sumDown-more m (suc n) (suc i) = omega (arith, sumDown-suc m n i, sumDown-suc m n (suc i), sumDown-more m n i)
+sum_down-more : (m n i : ℕ) → sum_down m n i ≤ sum_down m n (suc i)
+sum_down-more m n zero = omega (arith, sum_down-none m n)
+sum_down-more m zero (suc i) = omega (arith, sum_down-zero m (suc i) (omega arith), sum_down-zero m (suc (suc i)) (omega arith))
+sum_down-more m (suc n) (suc i) = omega (arith, sum_down-suc m n i, sum_down-suc m n (suc i), sum_down-more m n i)
 
 F-double : (m n : ℕ) → 1 ≤ m → F m (suc n) ≤ 2 * F m n
 F-double zero n p = absurd (omega arith)
-F-double (suc m) zero p = omega (arith, F-suc (suc m) 0, sumDown-zero (suc m) (suc m) (omega arith), F-pos (suc m) 0 p)
-F-double (suc m) (suc n) p = omega (arith, F-suc (suc m) (suc n), sumDown-suc (suc m) n m, F-suc (suc m) n, sumDown-more (suc m) n m)
+F-double (suc m) zero p = omega (arith, F-suc (suc m) 0, sum_down-zero (suc m) (suc m) (omega arith), F-pos (suc m) 0 p)
+F-double (suc m) (suc n) p = omega (arith, F-suc (suc m) (suc n), sum_down-suc (suc m) n m, F-suc (suc m) n, sum_down-more (suc m) n m)
 
-module _ (m n d : ℕ) (o : Order m) (p : 1 ≤ n) (l : n ≤ maxNumber) (long : d + m ≡ length (codeword m n)) where
+module _ (m n d : ℕ) (o : Order m) (p : 1 ≤ n) (l : n ≤ max_number) (long : d + m ≡ length (codeword m n)) where
   is : d ≡ size m n n 0
   is = omega (arith, long, codeword-bits m n)
 
@@ -134,11 +134,11 @@ module _ (m n d : ℕ) (o : Order m) (p : 1 ≤ n) (l : n ≤ maxNumber) (long :
   first-legal : first m d ≤ n
   first-legal = rw is (codeword-size m n (omega arith) p).0
 
-  pub position-legal : (j : ℕ) → j ≤ d → F m j ≤ maxNumber
+  pub position-legal : (j : ℕ) → j ≤ d → F m j ≤ max_number
   position-legal j h = omega (arith, first-legal, F-first m d, F-rises m (omega arith) h)
 
   -- at first all the digits are left
-  pub high-start : (x : ℕ) → x ≡ numberOrZero (first m d) → (x ≤ n) × HighDigits m n d d (n - x) (1 * 2 ^ m % 2 ^ 64 - 1)
+  pub high-start : (x : ℕ) → x ≡ number_or_zero (first m d) → (x ≤ n) × HighDigits m n d d (n - x) (1 * 2 ^ m % 2 ^ 64 - 1)
   unfolding codeword
   high-start x q =
       let f : x ≡ first m d = q ∙ number-kept (first m d) (omega (arith, first-legal)) in
@@ -161,8 +161,8 @@ module _ (m n d j left w f : ℕ) (p : 1 ≤ m) (h : 1 ≤ j) (g : j ≤ d) (q :
   longer : m + (d - (j - 1)) ≡ suc (m + (d - j))
   longer = omega arith
 
-  begun : digits m (suc (j - 1)) left (wordBits (m + (d - j)) w) ≡ codeword m n
-  begun = ap (λ (k : ℕ). digits m k left (wordBits (m + (d - j)) w)) (sym back) ∙ b.0
+  begun : digits m (suc (j - 1)) left (word_bits (m + (d - j)) w) ≡ codeword m n
+  begun = ap (λ (k : ℕ). digits m k left (word_bits (m + (d - j)) w)) (sym back) ∙ b.0
 
   value : f ≡ F m (suc (j - 1))
   value = q ∙ ap (F m) back
@@ -175,7 +175,7 @@ module _ (m n d j left w f : ℕ) (p : 1 ≤ m) (h : 1 ≤ j) (g : j ≤ d) (q :
       let v : w + 1 * 2 ^ (m + (d - j)) ≡ 1 * 2 ^ (m + (d - j)) + w = omega arith in
       let r : left - 1 * f ≡ left - F m (suc (j - 1)) = omega (arith, value) in
       rw (longer, v, r, words-cons true (m + (d - j)) w b.1) (
-        sym (digits-big m (j - 1) left (wordBits (m + (d - j)) w) (omega (arith, value))) ∙ begun,
+        sym (digits-big m (j - 1) left (word_bits (m + (d - j)) w) (omega (arith, value))) ∙ begun,
         omega (arith, two-pow-succ (m + (d - j)), b.1),
         omega (arith, value, doubled, b.2),
       )
@@ -185,29 +185,29 @@ module _ (m n d j left w f : ℕ) (p : 1 ≤ m) (h : 1 ≤ j) (g : j ≤ d) (q :
       let v : w + 0 * 2 ^ (m + (d - j)) ≡ 0 * 2 ^ (m + (d - j)) + w = omega arith in
       let r : left - 0 * f ≡ left = omega arith in
       rw (longer, v, r, words-cons false (m + (d - j)) w b.1) (
-        sym (digits-small m (j - 1) left (wordBits (m + (d - j)) w) (omega (arith, value))) ∙ begun,
+        sym (digits-small m (j - 1) left (word_bits (m + (d - j)) w) (omega (arith, value))) ∙ begun,
         omega (arith, two-pow-succ (m + (d - j)), b.1),
         omega (arith, value),
       )
 
-  pub high-more : (c : ℕ) → d + m ≤ 47 → c ≡ bitValue (leb f left) → c ≤ 1
+  pub high-more : (c : ℕ) → d + m ≤ 47 → c ≡ bit_value (leb f left) → c ≤ 1
       → (c * f ≤ left) × HighDigits m n d (j - 1) (left - c * f) (w + c * 2 ^ (m + d - j) % 2 ^ 64)
   high-more c long e bit =
       let k : m + d - j ≡ m + (d - j) = omega arith in
       rw (k, shifted-bit c (m + (d - j)) bit (omega arith))
       (elim (dec_le f left) [
         | yes big ↦
-            let one : c ≡ 1 = e ∙ ap bitValue (le-leb f left big) in
+            let one : c ≡ 1 = e ∙ ap bit_value (le-leb f left big) in
             rw one (omega arith, high_one big)
         | no small ↦
-            let zero : c ≡ 0 = e ∙ ap bitValue (lt-leb f left (omega arith)) in
+            let zero : c ≡ 0 = e ∙ ap bit_value (lt-leb f left (omega arith)) in
             rw zero (omega arith, high_zero (omega arith))
       ])
 
 -- ## The lowest digits
 
 -- the bits of a word are those that made it
-word_back : (b : List Bool) → wordBits (length b) (word_of (length b) b) ≡ b
+word_back : (b : List Bool) → word_bits (length b) (word_of (length b) b) ≡ b
 word_back b = bits-of-word (length b) b ∙ ap (λ (k : ℕ). fit k b) (sym (add-zero (length b))) ∙ fit-long b 0 ∙ append-nil b
 
 -- zeros at the end of a word shift it
@@ -248,12 +248,12 @@ low-shifted m j k r p h =
 low-moved : (m j k u r : ℕ) → 1 ≤ m → r < F m (suc j) → low_word m (j + k) r * 2 ^ (u + j) ≡ low_word m j r * 2 ^ u * 2 ^ (j + k)
 low-moved m j k u r p h = rw (low-shifted m j k r p h, pow-add 2 u j, pow-add 2 j k) (omega arith)
 
-low_bits : (m j r : ℕ) → wordBits j (low_word m j r) ≡ digits m j r []
+low_bits : (m j r : ℕ) → word_bits j (low_word m j r) ≡ digits m j r []
 unfolding low_word
 low_bits m j r =
     let b : List Bool = digits m j r [] in
     let long : length b ≡ j = digits-length m j r [] ∙ add-zero j in
-    ap (λ (i : ℕ). wordBits i (word_of i b)) (sym long) ∙ word_back b
+    ap (λ (i : ℕ). word_bits i (word_of i b)) (sym long) ∙ word_back b
 
 low_below : (m t r : ℕ) → low_word m t r < 2 ^ t
 unfolding low_word
@@ -261,25 +261,25 @@ low_below m t r = word_below t (digits m t r [])
 
 -- ## The table of low digits
 
-pub low-row : (m : ℕ) (z : List ℕ) → Order m → get_or (valuesFrom lowDigits 2 5) (m - 2) z ≡ lowDigits m
+pub low-row : (m : ℕ) (z : List ℕ) → Order m → get_or (values_from low_digits 2 5) (m - 2) z ≡ low_digits m
 low-row m z h =
     let e : 2 + (m - 2) ≡ m = omega arith in
-    values-at lowDigits 2 5 (m - 2) z (omega arith) ∙ ap lowDigits e
+    values-at low_digits 2 5 (m - 2) z (omega arith) ∙ ap low_digits e
 
-pub low-at : (m x : ℕ) → x < 64 → get_or (lowDigits m) x 0 ≡ low_word m (lowCount m) x
-unfolding lowDigits
-low-at m x h = values-at (λ x. low_word m (lowCount m) x) 0 64 x 0 h ∙ ap (low_word m (lowCount m)) (zero-add x)
+pub low-at : (m x : ℕ) → x < 64 → get_or (low_digits m) x 0 ≡ low_word m (low_count m) x
+unfolding low_digits
+low-at m x h = values-at (λ x. low_word m (low_count m) x) 0 64 x 0 h ∙ ap (low_word m (low_count m)) (zero-add x)
 
-pub low-few : (m : ℕ) → Order m → lowCount m ≤ 8
-unfolding lowCount
-low-few m o = leb-true _ _ (each-order (λ m. leb (lowCount m) 8) true refl m o)
+pub low-few : (m : ℕ) → Order m → low_count m ≤ 8
+unfolding low_count
+low-few m o = leb-true _ _ (each-order (λ m. leb (low_count m) 8) true refl m o)
 
 -- what is left for the low digits is in the table
-pub low-within : (m j x : ℕ) → Order m → j ≤ lowCount m → x < F m (suc j) → x < 64
-unfolding lowCount F past
+pub low-within : (m j x : ℕ) → Order m → j ≤ low_count m → x < F m (suc j) → x < 64
+unfolding low_count F past
 low-within m j x o h l =
-    let t : ℕ = lowCount m in
-    let end : F m (suc t) ≤ 64 = leb-true _ _ (each-order (λ m. leb (F m (suc (lowCount m))) 64) true refl m o) in
+    let t : ℕ = low_count m in
+    let end : F m (suc t) ≤ 64 = leb-true _ _ (each-order (λ m. leb (F m (suc (low_count m))) 64) true refl m o) in
     omega (arith, end, F-rises m (omega arith) {j = suc j} {k = suc t} (omega arith))
 
 -- ## The word
@@ -304,14 +304,14 @@ module _ (m n d t left w : ℕ) (o : Order m) (long : d + m ≤ 47) (few : t ≤
       ∙ shl-shr (low_word m stop left * 2 ^ below) t
 
   pub high_end : (x : ℕ) → x ≡ low_word m t left
-      → (wordBits (d + m) (w + x * 2 ^ (d + m) % 2 ^ 64 / 2 ^ t) ≡ codeword m n) × (w + x * 2 ^ (d + m) % 2 ^ 64 / 2 ^ t < 2 ^ (d + m))
+      → (word_bits (d + m) (w + x * 2 ^ (d + m) % 2 ^ 64 / 2 ^ t) ≡ codeword m n) × (w + x * 2 ^ (d + m) % 2 ^ 64 / 2 ^ t < 2 ^ (d + m))
   unfolding stop below
   high_end x e =
       let low : ℕ = low_word m stop left in
       let u : d + m ≡ stop + below = omega arith in
       let v : w + low * 2 ^ below ≡ low * 2 ^ below + w = omega arith in
       rw (e, moved, u, v) (
-        words-join stop below low w b.1 ∙ ap (λ (l : List Bool). l ++ wordBits below w) (low_bits m stop left)
-            ∙ sym (digits_append m stop left [] (wordBits below w)) ∙ b.0,
+        words-join stop below low w b.1 ∙ ap (λ (l : List Bool). l ++ word_bits below w) (low_bits m stop left)
+            ∙ sym (digits_append m stop left [] (word_bits below w)) ∙ b.0,
         rw (pow-add 2 stop below) (digits_lt (low_below m stop left) b.1),
       )

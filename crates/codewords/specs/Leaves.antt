@@ -1,7 +1,7 @@
 -- How a codeword is made: a first guess at its length, the greedy digits one by one from the highest down, and the lowest ones at once by a table.
 use Rattle.std.specs.Prelude.{◌≡◌, true, false, List, [], ℕ, suc, ◌+◌, ◌-◌, ◌^◌, ◌≤◌, ◌<◌, eqb, length}
-use Rattle.lists.specs.Lists.{valuesFrom}
-use Rattle.bits.specs.Bits.{wordBits, word_of}
+use Rattle.lists.specs.Lists.{values_from}
+use Rattle.bits.specs.Bits.{word_bits, word_of}
 use Rattle.fibonacci.specs.Code.{F, digits, codeword}
 use Rattle.fibonacci.specs.Leaves.{Positions, Firsts}
 use Rattle.codewords.specs.declared.Word.{Word}
@@ -15,17 +15,17 @@ rate m = elim (eqb m 2) [ true ↦ 11 | false ↦ elim (eqb m 3) [ true ↦ 9 | 
 -- ## The low digits
 
 -- How many digits are looked up at once: so many as numbers below 64 are enough for
-unfoldable pub lowCount : ℕ → ℕ
-lowCount m = elim (eqb m 2) [ true ↦ 8 | false ↦ 6 ]
+unfoldable pub low_count : ℕ → ℕ
+low_count m = elim (eqb m 2) [ true ↦ 8 | false ↦ 6 ]
 
 -- The digits of x at the positions 1, 2, .. , t as a word, position t at its bottom
 unfoldable pub low_word : ℕ → ℕ → ℕ → ℕ
 low_word m t x = word_of t (digits m t x [])
 
 -- The row of the table for order m: the low digits of 0, 1, .. , 63
-unfoldable pub lowDigits : ℕ → List ℕ
-unfolding low_word lowCount
-lowDigits m = valuesFrom (λ x. low_word m (lowCount m) x) 0 64
+unfoldable pub low_digits : ℕ → List ℕ
+unfolding low_word low_count
+low_digits m = values_from (λ x. low_word m (low_count m) x) 0 64
 
 -- ## The digits above them
 
@@ -33,16 +33,16 @@ lowDigits m = valuesFrom (λ x. low_word m (lowCount m) x) 0 64
 -- ones
 abbrev pub HighDigits : ℕ → ℕ → ℕ → ℕ → ℕ → ℕ → Type 0
 HighDigits m n d j left w =
-    (digits m j left (wordBits (m + (d - j)) w) ≡ codeword m n) × (w < 2 ^ (m + (d - j))) × (left < F m (suc j))
+    (digits m j left (word_bits (m + (d - j)) w) ≡ codeword m n) × (w < 2 ^ (m + (d - j))) × (left < F m (suc j))
 
 -- ## The tables
 
 -- What a function knows of the tables that it is lent: the order is in use, and these are its position values, its first numbers and its low digits
 abbrev pub Tables : ℕ → List ℕ → List ℕ → List ℕ → Type 0
-Tables m positions firsts low = Positions m positions × Firsts m firsts × (low ≡ lowDigits m)
+Tables m positions firsts low = Positions m positions × Firsts m firsts × (low ≡ low_digits m)
 
 -- ## The word
 
 -- A word's low bits, so many, are the codeword of n
 abbrev pub Codes : ℕ → ℕ → Word → Type 0
-Codes m n w = (wordBits w.len w.bits ≡ codeword m n) × (w.bits < 2 ^ w.len) × (w.len ≡ length (codeword m n)) × (1 ≤ w.len) × (w.len ≤ 47)
+Codes m n w = (word_bits w.len w.bits ≡ codeword m n) × (w.bits < 2 ^ w.len) × (w.len ≡ length (codeword m n)) × (1 ≤ w.len) × (w.len ≤ 47)

@@ -1,10 +1,10 @@
 // The codeword of a number in order 2 to 6 as a word, at most 47 bits long.
 ghost use Rattle.std.specs.Prelude.{◌≡◌, ◌+◌, ◌-◌, ◌^◌, ◌≤◌, ◌<◌, min, leb, length};
-ghost use Rattle.bits.specs.Bits.{bitValue, wordBits};
+ghost use Rattle.bits.specs.Bits.{bit_value, word_bits};
 ghost use Rattle.fibonacci.specs.Code.{first, codeword};
-ghost use Rattle.calls.specs.Limits.{Order, maxNumber};
+ghost use Rattle.calls.specs.Limits.{Order, max_number};
 ghost use Rattle.fibonacci.specs.Leaves.{Positions, Firsts};
-ghost use Rattle.codewords.specs.Leaves.{rate, lowCount, lowDigits, HighDigits, Tables, Codes};
+ghost use Rattle.codewords.specs.Leaves.{rate, low_count, low_digits, HighDigits, Tables, Codes};
 
 mod tables;
 
@@ -40,7 +40,7 @@ fn rate(order: usize) -> usize
 // A first guess at the bits of the codeword of n before its last ones, by the length of n in bits: right, or up to three too few. Requires: a legal
 // order and number, as all functions below.
 fn guess(order: usize, n: u64) -> usize
-    requires { Order order × (1 ≤ n) × (n ≤ maxNumber) }
+    requires { Order order × (1 ≤ n) × (n ≤ max_number) }
     ensures { (first order result ≤ n) × (n < first order (result + 4)) × (result ≤ 42) }
 {
     let b = 63 - u64::leading_zeros(n) as usize;
@@ -50,8 +50,8 @@ fn guess(order: usize, n: u64) -> usize
 // 1 where the first number of d bits before the last ones is at most n, else 0: a number to add, so that `body_length` has no branch on n.
 // Requires: the order's first numbers, and a length that they reach to, which `body_length` shows.
 fn one_if_reached(firsts: &[u32; 47], order: usize, d: usize, n: u64) -> usize
-    requires { Firsts order firsts.now × (d < 47) × (n ≤ maxNumber) }
-    ensures { (result ≡ bitValue (leb (first order d) n)) × (result ≤ 1) }
+    requires { Firsts order firsts.now × (d < 47) × (n ≤ max_number) }
+    ensures { (result ≡ bit_value (leb (first order d) n)) × (result ≤ 1) }
 {
     let x = calls::wide(firsts[d]);
     if x != 0 && x <= n { 1 } else { 0 }
@@ -60,7 +60,7 @@ fn one_if_reached(firsts: &[u32; 47], order: usize, d: usize, n: u64) -> usize
 // How many bits of the codeword of n stand before its last ones: the largest d whose first number is at most n. Requires: the order's first numbers, and a legal
 // number.
 fn body_length(firsts: &[u32; 47], order: usize, n: u64) -> usize
-    requires { Firsts order firsts.now × (1 ≤ n) × (n ≤ maxNumber) }
+    requires { Firsts order firsts.now × (1 ≤ n) × (n ≤ max_number) }
     ensures { (result + order ≡ length (codeword order n)) × (result + order ≤ 47) }
 {
     let d = guess(order, n);
@@ -72,7 +72,7 @@ fn body_length(firsts: &[u32; 47], order: usize, n: u64) -> usize
 
 // How many of the lowest digits `word_of` looks up at once.
 fn low_count(order: usize) -> usize
-    ensures { result ≡ lowCount order }
+    ensures { result ≡ low_count order }
 {
     if order == 2 { 8 } else { 6 }
 }
@@ -80,7 +80,7 @@ fn low_count(order: usize) -> usize
 // The lowest digits of the numbers below 64: a row that a caller takes once and hands to `coded`. Requires: an order from 2 to 6, which every operation checks.
 pub fn low_digits(order: usize) -> [u8; 64]
     requires { Order order }
-    ensures { result ≡ lowDigits order }
+    ensures { result ≡ low_digits order }
 {
     let i = order - 2;
     LOW_DIGITS[i]
@@ -89,7 +89,7 @@ pub fn low_digits(order: usize) -> [u8; 64]
 // The same row, over what t holds, as `fibonacci::fill_positions` does it. Requires: the same.
 fn fill_low_digits(t: &mut [u8; 64], order: usize)
     requires { Order order }
-    ensures { t.new ≡ lowDigits order }
+    ensures { t.new ≡ low_digits order }
 {
     if order == 3 {
         *t = LOW_DIGITS_3;
@@ -108,8 +108,8 @@ fn fill_low_digits(t: &mut [u8; 64], order: usize)
 // exactly where the digit is 1: arithmetic, as the compiler makes a branch of an `if` here, and the loop then takes twice as long.
 // Requires: both are in the range of a legal number, which `high_digits` keeps.
 fn digit(f: u64, above: u64) -> u64
-    requires { (f ≤ maxNumber) × (2 ^ 32 ≤ above) × (above ≤ 2 ^ 32 + maxNumber) }
-    ensures { (result ≡ bitValue (leb f (above - 2 ^ 32))) × (result ≤ 1) }
+    requires { (f ≤ max_number) × (2 ^ 32 ≤ above) × (above ≤ 2 ^ 32 + max_number) }
+    ensures { (result ≡ bit_value (leb f (above - 2 ^ 32))) × (result ≤ 1) }
 {
     (above - f) >> 32
 }
@@ -123,7 +123,7 @@ fn high_digits(
     d: usize,
     low: usize,
 ) -> High
-    requires { Positions order positions.now × Firsts order firsts.now × (1 ≤ n) × (n ≤ maxNumber) × (d + order ≡ length (codeword order n)) }
+    requires { Positions order positions.now × Firsts order firsts.now × (1 ≤ n) × (n ≤ max_number) × (d + order ≡ length (codeword order n)) }
     ensures { HighDigits order n d (min d low) result.left result.word }
 {
     let mut w: u64 = (1 << order) - 1;
@@ -150,8 +150,8 @@ fn word_of(
     n: u64,
     d: usize,
 ) -> u64
-    requires { Tables order positions.now firsts.now low.now × (1 ≤ n) × (n ≤ maxNumber) × (d + order ≡ length (codeword order n)) }
-    ensures { (wordBits (d + order) result ≡ codeword order n) × (result < 2 ^ (d + order)) }
+    requires { Tables order positions.now firsts.now low.now × (1 ≤ n) × (n ≤ max_number) × (d + order ≡ length (codeword order n)) }
+    ensures { (word_bits (d + order) result ≡ codeword order n) × (result < 2 ^ (d + order)) }
 {
     let count = low_count(order);
     let high = high_digits(positions, firsts, order, n, d, count);
@@ -162,7 +162,7 @@ fn word_of(
 
 // How many bits the codeword of n has. Requires: the order's first numbers, and a legal number, which whoever asks has checked.
 pub fn bit_length(firsts: &[u32; 47], order: usize, n: u64) -> usize
-    requires { Firsts order firsts.now × (1 ≤ n) × (n ≤ maxNumber) }
+    requires { Firsts order firsts.now × (1 ≤ n) × (n ≤ max_number) }
     ensures { (result ≡ length (codeword order n)) × (result ≤ 47) }
 {
     body_length(firsts, order, n) + order
@@ -176,7 +176,7 @@ pub fn coded(
     order: usize,
     n: u64,
 ) -> Word
-    requires { Tables order positions.now firsts.now low.now × (1 ≤ n) × (n ≤ maxNumber) }
+    requires { Tables order positions.now firsts.now low.now × (1 ≤ n) × (n ≤ max_number) }
     ensures { Codes order n result }
 {
     let d = body_length(firsts, order, n);
@@ -187,7 +187,7 @@ pub fn coded(
 
 // The codeword of one number, by tables of its own, for whoever puts no more than one. Requires: an order from 2 to 6 and a legal number, which appending and replacing check.
 pub fn codeword(order: usize, n: u64) -> Word
-    requires { Order order × (1 ≤ n) × (n ≤ maxNumber) }
+    requires { Order order × (1 ≤ n) × (n ≤ max_number) }
     ensures { Codes order n result }
 {
     let mut positions = [0u32; 47];

@@ -12,7 +12,7 @@ use Rattle.codes.specs.Rows.{Positive}
 use Rattle.codes.specs.Parse.{parsed}
 use Rattle.codes.proofs.Parse.{onto, onto-parsed}
 use Rattle.fibonacci.specs.Code.{ones, value, first, number, codeword, size, Codeword}
-use Rattle.fibonacci.specs.Encoding.{rowBits, parse, numbers}
+use Rattle.fibonacci.specs.Encoding.{row_bits, parse, numbers}
 use Rattle.fibonacci.proofs.Lookup.{first-few}
 use Rattle.fibonacci.proofs.Numbers.{codeword-number, number_of}
 use Rattle.fibonacci.proofs.Numeration.{digits-length}
@@ -20,11 +20,11 @@ use Rattle.fibonacci.proofs.Parse.{parse-rest}
 use Rattle.fibonacci.proofs.Rows.{row-numbers, bits-parse, bits-numbers}
 use Rattle.calls.specs.declared.Refusal.TheVariants.{TooManyCodewords, TooLarge, BadRest}
 use Rattle.calls.specs.Calls.{accepted, refused}
-use Rattle.calls.specs.Limits.{Order, is_number, Legal, maxNumber, maxCount}
+use Rattle.calls.specs.Limits.{Order, is_number, Legal, max_number, max_count}
 use Rattle.calls.specs.Reading.{contents}
 use Rattle.calls.proofs.Checks.{number_is, positive}
 use Rattle.reading.specs.Reading.{fibonacci}
-use Rattle.reading.specs.Leaves.{NumberOf, isPadding}
+use Rattle.reading.specs.Leaves.{NumberOf, is_padding}
 use Rattle.calls.proofs.Decoding.{contents-many, contents-large}
 use Rattle.reading.proofs.Checking.{padding-is, padding-not, contents-rest, contents-good, numbered-legal, numbered-large}
 use Rattle.word_decoder.specs.Leaves.{DecodedPrefix, Taken}
@@ -71,20 +71,20 @@ module _ (s : List ℕ) {m limit bit count : ℕ} {row : List ℕ} {r : Next} (o
     go_on : numbers m b ≡ row ++ (x ∷ numbers m behind)
     go_on =
         let own = codeword-number m ended pos coded in
-        let alone : rowBits m (x ∷ []) ≡ codeword m x = unfold rowBits flatten in append-nil (codeword m x) in
+        let alone : row_bits m (x ∷ []) ≡ codeword m x = unfold row_bits flatten in append-nil (codeword m x) in
         ap (numbers m) g.taken.bits ∙ bits-numbers m row (drop bit b) pos row-positive
         ∙ ap (λ (l : List ℕ). row ++ l)
         (ap (numbers m) (cut ∙ ap (λ (c : List Bool). c ++ behind) (sym (alone ∙ own.0))) ∙ bits-numbers m (x ∷ []) behind pos (own.1, tt))
 
-    pub step-many : count ≡ maxCount → contents (fibonacci m) limit s ≡ refused TooManyCodewords
+    pub step-many : count ≡ max_count → contents (fibonacci m) limit s ≡ refused TooManyCodewords
     step-many c = contents-many (fibonacci m) limit s row g.taken.legal x (numbers m behind) go_on (g.many ∙ c)
 
     -- n was found for its number
-    module _ (n : ℕ) (is : NumberOf m r.len r.val n) (top : limit ≤ maxNumber) (less : count ≡ maxCount → ⊥) where
-      near : first m r.len ≤ maxNumber → x ≡ first m r.len + r.val
-      near h = omega (arith, x-is, t.value-is h)
+    module _ (n : ℕ) (is : NumberOf m r.len r.val n) (top : limit ≤ max_number) (less : count ≡ max_count → ⊥) where
+      near : first m r.len ≤ max_number → x ≡ first m r.len + r.val
+      near h = omega (arith, x-is, t.value_is h)
 
-      far : maxNumber < first m r.len → maxNumber < x
+      far : max_number < first m r.len → max_number < x
       far h = omega (arith, x-is)
 
       pub step-large : is_number limit n ≡ false → contents (fibonacci m) limit s ≡ refused (TooLarge count)
@@ -92,7 +92,7 @@ module _ (s : List ℕ) {m limit bit count : ℕ} {row : List ℕ} {r : Next} (o
           contents-large (fibonacci m) limit s row g.taken.legal x (numbers m behind) go_on (omega (arith, g.many, g.most))
           (numbered-large m r.len r.val n is x near far limit top l) ∙ ap (λ (k : ℕ). refused (TooLarge k)) g.many
 
-      pub step-number : is_number limit n ≡ true → (count < maxCount) × DecodedPrefix m limit b r.bit (count + 1) (row ++ (n ∷ []))
+      pub step-number : is_number limit n ≡ true → (count < max_count) × DecodedPrefix m limit b r.bit (count + 1) (row ++ (n ∷ []))
       step-number l =
           let size : ℕ = r.len + r.run in
           let long : length ended ≡ size = omega (arith, length-append t.body (ones m), length-replicate m true, t.long, (t.ended last).0) in
@@ -125,17 +125,17 @@ module _ (s : List ℕ) {m limit bit count : ℕ} {row : List ℕ} {r : Next} (o
         ∙ onto-parsed words rest
 
     short : r.len < 8 → (length t.body ≡ r.len) × (r.val ≡ value m 1 t.body)
-    short l = (t.long, t.value-is (first-few m r.len o (omega arith)))
+    short l = (t.long, t.value_is (first-few m r.len o (omega arith)))
 
     far-off : 8 ≤ r.len → 8 ≤ length t.body
     far-off l = omega (arith, t.long)
 
-    pub step-rest : isPadding r.len r.val r.run ≡ false → contents (fibonacci m) limit s ≡ refused BadRest
+    pub step-rest : is_padding r.len r.val r.run ≡ false → contents (fibonacci m) limit s ≡ refused BadRest
     step-rest e =
         contents-rest limit m s row g.taken.legal words rest rest-is (row-numbers m row pos row-positive) (omega (arith, g.many, g.most))
         (padding-not m t.body r.len r.val r.run pos short far-off e)
 
-    pub step_end : isPadding r.len r.val r.run ≡ true → contents (fibonacci m) limit s ≡ accepted row
+    pub step_end : is_padding r.len r.val r.run ≡ true → contents (fibonacci m) limit s ≡ accepted row
     step_end e =
         let q = padding-is m t.body r.len r.val r.run pos short far-off e in
         contents-good limit m s row g.taken.legal words rest rest-is (row-numbers m row pos row-positive) (omega (arith, g.many, g.most)) q.0 q.1
@@ -143,13 +143,13 @@ module _ (s : List ℕ) {m limit bit count : ℕ} {row : List ℕ} {r : Next} (o
 -- ## How many numbers so many bytes hold
 
 -- no codeword is shorter than two bits
-bits-least : (m : ℕ) (row : List ℕ) → 2 ≤ m → 2 * length row ≤ length (rowBits m row)
-unfolding rowBits flatten codeword
+bits-least : (m : ℕ) (row : List ℕ) → 2 ≤ m → 2 * length row ≤ length (row_bits m row)
+unfolding row_bits flatten codeword
 bits-least m [] h = omega arith
 bits-least m (n ∷ row) h =
     omega (
       arith,
-      length-append (codeword m n) (rowBits m row),
+      length-append (codeword m n) (row_bits m row),
       digits-length m (size m n n 0) (n - first m (size m n n 0)) (ones m),
       length-replicate m true,
       bits-least m row h,

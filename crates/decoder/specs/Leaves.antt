@@ -3,9 +3,9 @@ use Rattle.std.specs.Prelude.{◌≡◌, List, [], ◌∷◌, ◌++◌, ℕ, ◌
 use Rattle.std.proofs.Math.Seq.{slice}
 use Rattle.lists.specs.Lists.{sum}
 use Rattle.bits.specs.Bits.{unpack}
-use Rattle.fibonacci.specs.Encoding.{rowBits}
+use Rattle.fibonacci.specs.Encoding.{row_bits}
 use Rattle.calls.specs.Calls.{Outcome, accepted, refused}
-use Rattle.calls.specs.Limits.{maxCount}
+use Rattle.calls.specs.Limits.{max_count}
 use Rattle.calls.specs.Reading.{contents}
 use Rattle.reading.specs.Reading.{fibonacci}
 use Rattle.word_decoder.specs.Leaves.{DecodedPrefix}
@@ -19,15 +19,15 @@ use Rattle.decoder.specs.declared.SpanAnswer.TheVariants as span
 -- the end of the row where it has no such place
 abbrev pub summary : ℕ → ℕ → ℕ → List ℕ → Summary
 summary m from to row =
-    record { count = length row; bits = length (rowBits m row); total = sum (slice from to row); all = sum row; start = length (rowBits m (take from row)) }
+    record { count = length row; bits = length (row_bits m row); total = sum (slice from to row); all = sum row; start = length (row_bits m (take from row)) }
 
-abbrev pub spanOutcome : SpanAnswer → Outcome Summary
-spanOutcome (span.Row f) = accepted f
-spanOutcome (span.Refused r) = refused r
+abbrev pub span_outcome : SpanAnswer → Outcome Summary
+span_outcome (span.Row f) = accepted f
+span_outcome (span.Refused r) = refused r
 
 -- Where a step leads from the `count` numbers of a row, which end at a bit: to another number, or to the end of the row, or the bytes are refused
 abbrev pub Stepped : ℕ → ℕ → List ℕ → ℕ → List ℕ → Step → Type 0
-Stepped m limit s count row (step.Number n bit) = (count < maxCount) × DecodedPrefix m limit (unpack s) bit (count + 1) (row ++ (n ∷ []))
+Stepped m limit s count row (step.Number n bit) = (count < max_count) × DecodedPrefix m limit (unpack s) bit (count + 1) (row ++ (n ∷ []))
 Stepped m limit s count row step.End = contents (fibonacci m) limit s ≡ accepted row
 Stepped m limit s count row (step.Refused r) = contents (fibonacci m) limit s ≡ refused r
 

@@ -2,13 +2,13 @@
 ghost use Rattle.std.specs.Prelude.{◌≡◌, ◌*◌, ◌≤◌, min, ltb, length};
 ghost use Rattle.bits.specs.Bits.{unpack};
 ghost use Rattle.calls.specs.Calls.{accepted, and_then};
-ghost use Rattle.calls.specs.Limits.{Order, maxNumber, maxCount, maxBytes};
+ghost use Rattle.calls.specs.Limits.{Order, max_number, max_count, max_bytes};
 ghost use Rattle.calls.specs.Reading.{decode};
 ghost use Rattle.calls.specs.Leaves.{Scanned};
 ghost use Rattle.fibonacci.specs.Leaves.{Firsts};
 ghost use Rattle.word_decoder.specs.Leaves.{Spanned, StoredRow};
 ghost use Rattle.reading.specs.Reading.{fibonacci, ReadPromise};
-ghost use Rattle.decoder.specs.Leaves.{summary, spanOutcome, Leads};
+ghost use Rattle.decoder.specs.Leaves.{summary, span_outcome, Leads};
 
 // From this many bytes on, words are faster than bits, in spite of the table that they need.
 const WORDS_FROM: usize = 17;
@@ -39,7 +39,7 @@ pub enum SpanAnswer {
 
 // The check of an encoding's length.
 fn too_long(s: &[u8]) -> bool
-    ensures { result ≡ ltb maxBytes (length s.now) }
+    ensures { result ≡ ltb max_bytes (length s.now) }
 {
     s.len() > calls::MAX_BYTES
 }
@@ -54,7 +54,7 @@ fn next_number(
     bit: usize,
     count: usize,
 ) -> Step
-    requires { Firsts order firsts.now × (length s.now ≤ maxBytes) × (limit ≤ maxNumber) × (bit ≤ 8 * length s.now) }
+    requires { Firsts order firsts.now × (length s.now ≤ max_bytes) × (limit ≤ max_number) × (bit ≤ 8 * length s.now) }
     ensures { Leads order limit s.now bit count result }
 {
     let next = bit_decoder::seek(firsts, order, s, bit);
@@ -84,7 +84,7 @@ fn store_words(
     limit: u64,
     row: &mut [u32],
 ) -> word_decoder::Progress
-    requires { Firsts order firsts.now × (length s.now ≤ maxBytes) × (limit ≤ maxNumber) }
+    requires { Firsts order firsts.now × (length s.now ≤ max_bytes) × (limit ≤ max_number) }
     ensures { StoredRow order limit (unpack s.now) row.old row.new result }
 {
     if s.len() < WORDS_FROM {
@@ -103,7 +103,7 @@ fn sum_words(
     from: usize,
     to: usize,
 ) -> word_decoder::SpanProgress
-    requires { Firsts order firsts.now × (length s.now ≤ maxBytes) × (limit ≤ maxNumber) }
+    requires { Firsts order firsts.now × (length s.now ≤ max_bytes) × (limit ≤ max_number) }
     ensures { Spanned order limit from to (unpack s.now) result }
 {
     if s.len() < WORDS_FROM {
@@ -121,7 +121,7 @@ fn sum_words(
 // Stores the row of an encoding in a list. Requires: an order in use, a limit of at most 4,294,967,295, and room for every row that so many bytes can hold,
 // as no codeword is shorter than two bits, which each operation checks or shows.
 pub fn store_row(order: usize, s: &[u8], limit: u64, row: &mut [u32]) -> calls::CountAnswer
-    requires { Order order × (limit ≤ maxNumber) × (min maxCount (4 * length s.now) ≤ length row.old) }
+    requires { Order order × (limit ≤ max_number) × (min max_count (4 * length s.now) ≤ length row.old) }
     ensures { Scanned (decode (fibonacci order) limit s.now) result row.new }
 {
     if too_long(s) {
@@ -148,8 +148,8 @@ pub fn store_row(order: usize, s: &[u8], limit: u64, row: &mut [u32]) -> calls::
 // What is told of the row of an encoding and of a span of it, from one place up to but without another; the row itself goes nowhere. Requires: an order in
 // use and a limit of at most 4,294,967,295, which each operation checks or shows.
 pub fn sum_span(order: usize, s: &[u8], limit: u64, from: usize, to: usize) -> SpanAnswer
-    requires { Order order × (limit ≤ maxNumber) }
-    ensures { spanOutcome result ≡ and_then (decode (fibonacci order) limit s.now) (λ row. accepted (summary order from to row)) }
+    requires { Order order × (limit ≤ max_number) }
+    ensures { span_outcome result ≡ and_then (decode (fibonacci order) limit s.now) (λ row. accepted (summary order from to row)) }
 {
     if too_long(s) {
         return SpanAnswer::Refused(calls::Refusal::TooManyBytes);

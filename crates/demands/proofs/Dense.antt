@@ -11,23 +11,23 @@ use Rattle.lists.proofs.Each.{all_same}
 use Rattle.bits.specs.Bits.{Bytes}
 use Rattle.codes.specs.Parse.{rest}
 use Rattle.calls.specs.Calls.{accepted}
-use Rattle.calls.specs.Limits.{is_number, Legal, maxNumber, maxCount}
-use Rattle.calls.specs.Reading.{contents, decode, checkFinished}
+use Rattle.calls.specs.Limits.{is_number, Legal, max_number, max_count}
+use Rattle.calls.specs.Reading.{contents, decode, check_finished}
 use Rattle.calls.proofs.Checks.{number_is, is-number, positive}
 use Rattle.calls.specs.declared.Refusal.TheVariants.{BadStoppers}
 use Rattle.calls.proofs.Decoding.{decode-accepts, called-returns}
 use Rattle.calls.proofs.Writing.{Writable}
 use Rattle.dense.specs.Code.{first, value, number, stem, codeword}
 use Rattle.dense.specs.Encoding.{encoding, parse, numbers}
-use Rattle.dense.specs.Limits.{isStoppers, Stoppers, continuers}
+use Rattle.dense.specs.Limits.{is_stoppers, Stoppers, continuers}
 use Rattle.dense.proofs.Limits.{stoppers-is, is-stoppers, bytes_below}
-use Rattle.dense.proofs.Numbers.{number-positive, codeword-good, codeword-only, number_digits, number-length, shorter-first}
+use Rattle.dense.proofs.Numbers.{number-positive, codeword-good, codeword-only, number_digits, number-length, shorter_first}
 use Rattle.dense.proofs.Parse.{parse-is}
-use Rattle.dense.proofs.Rows.{parse-only, encoding-parse, encoding-read, numbers-bytes, rows_apart, rows-begin, numbers-positive}
+use Rattle.dense.proofs.Rows.{parse-only, encoding-parse, encoding-read, numbers-bytes, rows_apart, rows_begin, numbers-positive}
 use Rattle.dense.proofs.Long.{codeword-long, rows_fit}
-use Rattle.dense_encoder.specs.Writing.{writeDense, writeDenseInto}
+use Rattle.dense_encoder.specs.Writing.{write_dense, write_dense_into}
 use Rattle.dense_encoder.proofs.Writing.{writing, write-is, write-accepts, write-into}
-use Rattle.dense_decoder.specs.Reading.{dense, readDense, readDenseInto}
+use Rattle.dense_decoder.specs.Reading.{dense, read_dense, read_dense_into}
 use Rattle.dense_decoder.proofs.Reading.{decode_is, decoded-rest, read_is, read-row}
 use Rattle.demands.specs.Readers.{ReturnsParse}
 use Rattle.demands.specs.Dense.{DenseCode, DenseRoundTrip, DenseLengths, DenseExamples, DenseDemand}
@@ -35,18 +35,18 @@ use Rattle.demands.specs.Dense.{DenseCode, DenseRoundTrip, DenseLengths, DenseEx
 dense-code : (s c : ℕ) → 1 ≤ s → 1 ≤ c → DenseCode s c
 dense-code s c ps pc =
     record {
-      number-of-codeword = λ w k. number-positive s c w;
-      codeword-of-number = codeword-good s c ps pc;
-      no-other-codeword = codeword-only s c ps pc;
+      number_of_codeword = λ w k. number-positive s c w;
+      codeword_of_number = codeword-good s c ps pc;
+      no_other_codeword = codeword-only s c ps pc;
       number_digits = number_digits s c;
-      shorter-first = shorter-first s c;
-      numbers-of-length = number-length s c;
-      has-parse = parse-is s c;
-      no-other-parse = parse-only s c ps pc;
+      shorter_first = shorter_first s c;
+      numbers_of_length = number-length s c;
+      has_parse = parse-is s c;
+      no_other_parse = parse-only s c ps pc;
       rows_apart = rows_apart s c ps pc;
-      rows-begin = rows-begin s c ps pc;
-      parse-of-row = encoding-parse s c ps pc;
-      row-of-parse = numbers-bytes s c ps pc;
+      rows_begin = rows_begin s c ps pc;
+      parse_of_row = encoding-parse s c ps pc;
+      row_of_parse = numbers-bytes s c ps pc;
     }
 
 -- ## The round trip
@@ -56,12 +56,12 @@ module _ (s : ℕ) where
   c = continuers s
 
   -- reading what was written
-  decode-encoding : (row : List ℕ) → Stoppers s → length row ≤ maxCount → Legal maxNumber row → decode (dense s) maxNumber (encoding s c row) ≡ accepted row
+  decode-encoding : (row : List ℕ) → Stoppers s → length row ≤ max_count → Legal max_number row → decode (dense s) max_number (encoding s c row) ≡ accepted row
   decode-encoding row o l a =
       let pc : 1 ≤ c = omega (arith, o) in
-      let p = positive maxNumber row a in
+      let p = positive max_number row a in
       let none : length (rest (parse s (encoding s c row))) < 1 = omega (arith, ap (λ x. length (rest x)) (encoding-parse s c o.0 pc row p)) in
-      decode-accepts (dense s) maxNumber (encoding s c row) row
+      decode-accepts (dense s) max_number (encoding s c row) row
       (record {
         bytes = rows_fit s row o l a;
         is = sym (encoding-read s c o.0 pc row p);
@@ -70,118 +70,118 @@ module _ (s : ℕ) where
         finished = lt-leb 1 (length (rest (parse s (encoding s c row)))) none;
       })
 
-  written : (row before : List ℕ) (bytes : ℕ) → writeDense s row (length before) ≡ accepted bytes → take bytes (writeDenseInto s row before) ≡ encoding s c row
+  written : (row before : List ℕ) (bytes : ℕ) → write_dense s row (length before) ≡ accepted bytes → take bytes (write_dense_into s row before) ≡ encoding s c row
   written row before bytes e =
       let i = write-is s row (length before) bytes e in
       ap₂ take i.1 (write-into s row before i.0) ∙ take-append_seam (encoding s c row) _
 
-  written_read : (row before out : List ℕ) (bytes : ℕ) → writeDense s row (length before) ≡ accepted bytes → length row ≤ length out
-      → let b = take bytes (writeDenseInto s row before) in
-      (readDense s b (length out) ≡ accepted (length row)) × (readDenseInto s b out ≡ row ++ drop (length row) out)
+  written_read : (row before out : List ℕ) (bytes : ℕ) → write_dense s row (length before) ≡ accepted bytes → length row ≤ length out
+      → let b = take bytes (write_dense_into s row before) in
+      (read_dense s b (length out) ≡ accepted (length row)) × (read_dense_into s b out ≡ row ++ drop (length row) out)
   written_read row before out bytes e l =
       let w = (write-is s row (length before) bytes e).0 in
       let o = stoppers-is s w.asked in
       rw (written row before bytes e) (read-row s (encoding s c row) out o row (decode-encoding row o w.count w.legal) l)
 
   -- writing what was read
-  decoded-encoding : (b row : List ℕ) → Stoppers s → Bytes b → decode (dense s) maxNumber b ≡ accepted row → b ≡ encoding s c row
+  decoded-encoding : (b row : List ℕ) → Stoppers s → Bytes b → decode (dense s) max_number b ≡ accepted row → b ≡ encoding s c row
   decoded-encoding b row o y e =
-      let d = decode_is s maxNumber b row e in
+      let d = decode_is s max_number b row e in
       let pc : 1 ≤ c = omega (arith, o) in
-      rw d.is (sym (numbers-bytes s c o.0 pc b (bytes_below s b o.1 y) (decoded-rest s maxNumber b row d)))
+      rw d.is (sym (numbers-bytes s c o.0 pc b (bytes_below s b o.1 y) (decoded-rest s max_number b row d)))
 
-  decoded-written : (b row before : List ℕ) → Stoppers s → Bytes b → decode (dense s) maxNumber b ≡ accepted row → length b ≤ length before
-      → (writeDense s row (length before) ≡ accepted (length b)) × (writeDenseInto s row before ≡ b ++ drop (length b) before)
+  decoded-written : (b row before : List ℕ) → Stoppers s → Bytes b → decode (dense s) max_number b ≡ accepted row → length b ≤ length before
+      → (write_dense s row (length before) ≡ accepted (length b)) × (write_dense_into s row before ≡ b ++ drop (length b) before)
   decoded-written b row before o y e l =
-      let d = decode_is s maxNumber b row e in
+      let d = decode_is s max_number b row e in
       let same : b ≡ encoding s c row = decoded-encoding b row o y e in
       let w : Writable (writing s row) (length before) = record { asked = is-stoppers s o; count = d.long; legal = d.legal; fits = omega (arith, ap length same) } in
       rw same (write-accepts s row (length before) w, write-into s row before w)
 
-  read-written : (b out before : List ℕ) (count : ℕ) → Bytes b → readDense s b (length out) ≡ accepted count → length b ≤ length before
-      → let row = take count (readDenseInto s b out) in
-      (writeDense s row (length before) ≡ accepted (length b)) × (writeDenseInto s row before ≡ b ++ drop (length b) before)
-  read-written b out before count y e l =
+  read_written : (b out before : List ℕ) (count : ℕ) → Bytes b → read_dense s b (length out) ≡ accepted count → length b ≤ length before
+      → let row = take count (read_dense_into s b out) in
+      (write_dense s row (length before) ≡ accepted (length b)) × (write_dense_into s row before ≡ b ++ drop (length b) before)
+  read_written b out before count y e l =
       let i = read_is s b (length out) count e in
       let row = i.1.0 in
-      let back : take count (readDenseInto s b out) ≡ row =
+      let back : take count (read_dense_into s b out) ≡ row =
       ap₂ take i.1.2 (read-row s b out i.0 row i.1.1 i.1.3).1 ∙ take-append_seam row _ in
       rw back (decoded-written b row before i.0 y i.1.1 l)
 
-  returns-parse : ReturnsParse (numbers s c) (readDense s) (readDenseInto s)
-  unfolding readDense readDenseInto
-  returns-parse b = called-returns BadStoppers (isStoppers s) (dense s) maxNumber b (numbers-positive s c b)
+  returns_parse : ReturnsParse (numbers s c) (read_dense s) (read_dense_into s)
+  unfolding read_dense read_dense_into
+  returns_parse b = called-returns BadStoppers (is_stoppers s) (dense s) max_number b (numbers-positive s c b)
 
-  written_apart : (row other before after : List ℕ) (bytes : ℕ) → writeDense s row (length before) ≡ accepted bytes → writeDense s other (length after) ≡ accepted bytes
-      → take bytes (writeDenseInto s row before) ≡ take bytes (writeDenseInto s other after) → row ≡ other
+  written_apart : (row other before after : List ℕ) (bytes : ℕ) → write_dense s row (length before) ≡ accepted bytes → write_dense s other (length after) ≡ accepted bytes
+      → take bytes (write_dense_into s row before) ≡ take bytes (write_dense_into s other after) → row ≡ other
   written_apart row other before after bytes e f q =
       let w = (write-is s row (length before) bytes e).0 in
       let v = (write-is s other (length after) bytes f).0 in
       let o = stoppers-is s w.asked in
       let pc : 1 ≤ c = omega (arith, o) in
-      rows_apart s c o.0 pc row other (positive maxNumber row w.legal) (positive maxNumber other v.legal)
+      rows_apart s c o.0 pc row other (positive max_number row w.legal) (positive max_number other v.legal)
       (sym (written row before bytes e) ∙ q ∙ written other after bytes f)
 
   dense-round-trip : DenseRoundTrip s
-  dense-round-trip = record { written_read = written_read; read-written = read-written; returns-parse = returns-parse; written_apart = written_apart }
+  dense-round-trip = record { written_read = written_read; read_written = read_written; returns_parse = returns_parse; written_apart = written_apart }
 
 -- ## Lengths
 
-reached : length (codeword 254 2 maxNumber) ≡ 25
+reached : length (codeword 254 2 max_number) ≡ 25
 unfolding codeword stem
 reached = refl
 
-full-bytes : (k : ℕ) → length (encoding 254 2 (replicate k maxNumber)) ≡ 25 * k
+full-bytes : (k : ℕ) → length (encoding 254 2 (replicate k max_number)) ≡ 25 * k
 unfolding encoding flatten
 full-bytes zero = refl
-full-bytes (suc k) = omega (arith, length-append (codeword 254 2 maxNumber) (encoding 254 2 (replicate k maxNumber)), reached, full-bytes k)
+full-bytes (suc k) = omega (arith, length-append (codeword 254 2 max_number) (encoding 254 2 (replicate k max_number)), reached, full-bytes k)
 
-full-legal : Legal maxNumber (replicate maxCount maxNumber)
-full-legal = all_same (λ n. is_number maxNumber n ≡ true) maxCount maxNumber (is-number maxNumber maxNumber (omega arith) (omega arith))
+full-legal : Legal max_number (replicate max_count max_number)
+full-legal = all_same (λ n. is_number max_number n ≡ true) max_count max_number (is-number max_number max_number (omega arith) (omega arith))
 
-full-count : length (replicate maxCount maxNumber) ≡ maxCount
-full-count = length-replicate maxCount maxNumber
+full-count : length (replicate max_count max_number) ≡ max_count
+full-count = length-replicate max_count max_number
 
 stoppers-254 : Stoppers 254
 stoppers-254 = (omega arith, omega arith)
 
-full-written : (room : ℕ) → 102400 ≤ room → writeDense 254 (replicate maxCount maxNumber) room ≡ accepted 102400
-full-written room h =
-    write-accepts 254 (replicate maxCount maxNumber) room
-    (record { asked = is-stoppers 254 stoppers-254; count = omega (arith, full-count); legal = full-legal; fits = omega (arith, full-bytes maxCount) })
-    ∙ ap accepted (full-bytes maxCount)
+full_written : (room : ℕ) → 102400 ≤ room → write_dense 254 (replicate max_count max_number) room ≡ accepted 102400
+full_written room h =
+    write-accepts 254 (replicate max_count max_number) room
+    (record { asked = is-stoppers 254 stoppers-254; count = omega (arith, full-count); legal = full-legal; fits = omega (arith, full-bytes max_count) })
+    ∙ ap accepted (full-bytes max_count)
 
-full-read : (room : ℕ) → maxCount ≤ room → readDense 254 (encoding 254 2 (replicate maxCount maxNumber)) room ≡ accepted maxCount
-full-read room h =
-    let row : List ℕ = replicate maxCount maxNumber in
+full_read : (room : ℕ) → max_count ≤ room → read_dense 254 (encoding 254 2 (replicate max_count max_number)) room ≡ accepted max_count
+full_read room h =
+    let row : List ℕ = replicate max_count max_number in
     let zeros : List ℕ = replicate room 0 in
     let out : length zeros ≡ room = length-replicate room 0 in
     let r = read-row 254 (encoding 254 2 row) zeros stoppers-254 row (decode-encoding 254 row stoppers-254 (omega (arith, full-count)) full-legal) (omega (arith, full-count, out)) in
-    ap (readDense 254 (encoding 254 2 row)) (sym out) ∙ r.0 ∙ ap accepted full-count
+    ap (read_dense 254 (encoding 254 2 row)) (sym out) ∙ r.0 ∙ ap accepted full-count
 
 dense-lengths : DenseLengths
 dense-lengths =
     record {
-      longest = λ s n o l. let p = number_is maxNumber n l in codeword-long s n o.0 o.1 p.0 p.1;
+      longest = λ s n o l. let p = number_is max_number n l in codeword-long s n o.0 o.1 p.0 p.1;
       reached = reached;
-      full-written = full-written;
-      full-read = full-read;
+      full_written = full_written;
+      full_read = full_read;
     }
 
 -- ## Examples
 
 dense-examples : DenseExamples
-unfolding codeword stem number first value parse numbers writeDense readDense decode contents checkFinished isStoppers
+unfolding codeword stem number first value parse numbers write_dense read_dense decode contents check_finished is_stoppers
 dense-examples =
     record {
       paper = refl;
       most = refl;
       fewest = refl;
-      no-stoppers = (refl, refl);
-      too-many-stoppers = (refl, refl);
+      no_stoppers = (refl, refl);
+      too_many_stoppers = (refl, refl);
       empty = refl;
-      open-short = refl;
-      open-long = refl;
+      open_short = refl;
+      open_long = refl;
       long = refl;
     }
 

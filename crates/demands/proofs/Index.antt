@@ -14,25 +14,25 @@ use Rattle.calls.specs.Calls.{Outcome, accepted, buffer}
 use Rattle.calls.specs.Limits.{Legal}
 use Rattle.calls.proofs.Checks.{check-passed, each-accepted}
 use Rattle.wavelet.specs.Nodes.{tree}
-use Rattle.wavelet.specs.Bitmaps.{bitmaps, index, isIndex, rowOfIndex}
-use Rattle.wavelet.specs.Questions.{checkTree, build, buildInto, extract, rank, select}
+use Rattle.wavelet.specs.Bitmaps.{bitmaps, index, is_index, row_of_index}
+use Rattle.wavelet.specs.Questions.{check_tree, build, build_into, extract, rank, select}
 use Rattle.wavelet.specs.Leaves.{Passed}
-use Rattle.wavelet.proofs.Nodes.{tree-under, tree-has, tree-only, nodes-are, nodes-once, node-count, node-digits}
-use Rattle.wavelet.proofs.Rows.{index-row, row-index, one-row}
+use Rattle.wavelet.proofs.Nodes.{tree-under, tree-has, tree-only, nodes_are, nodes_once, node_count, node_digits}
+use Rattle.wavelet.proofs.Rows.{index_row, row_index, one_row}
 use Rattle.wavelet.proofs.Answering.{tree-accepted, tree-legal, legal-order, legal-alphabet}
-use Rattle.demands.specs.Index.{extractOf, rank_of, selectOf, IndexDemand, AnswersAs, BuiltAnswers}
+use Rattle.demands.specs.Index.{extract_of, rank_of, select_of, IndexDemand, AnswersAs, BuiltAnswers}
 
 -- the questions asked of bytes that are the index of a row
-module _ (m N : ℕ) (row s : List ℕ) (good : isIndex m N (length row) s ≡ true) (same : rowOfIndex m N (length row) s ≡ row) where
-  extract-row : (i : ℕ) → extract m N (length row) s i ≡ checkTree m N (length row) (extractOf m N row i)
+module _ (m N : ℕ) (row s : List ℕ) (good : is_index m N (length row) s ≡ true) (same : row_of_index m N (length row) s ≡ row) where
+  extract_row : (i : ℕ) → extract m N (length row) s i ≡ check_tree m N (length row) (extract_of m N row i)
   unfolding extract
-  extract-row i = simp (good, same)
+  extract_row i = simp (good, same)
 
-  rank-row : (n i : ℕ) → rank m N (length row) s n i ≡ checkTree m N (length row) (rank_of m N row n i)
+  rank_row : (n i : ℕ) → rank m N (length row) s n i ≡ check_tree m N (length row) (rank_of m N row n i)
   unfolding rank
-  rank-row n i = simp (good, same)
+  rank_row n i = simp (good, same)
 
-  select_row : (n j : ℕ) → select m N (length row) s n j ≡ checkTree m N (length row) (selectOf m N row n j)
+  select_row : (n j : ℕ) → select m N (length row) s n j ≡ check_tree m N (length row) (select_of m N row n j)
   unfolding select
   select_row n j = simp (good, same)
 
@@ -42,17 +42,17 @@ index-demand m N two h =
     let u = tree-under m N p h in
     let has = tree-has m N p h in
     let only = tree-only m N p h in
-    let is = index-row m N u has only in
+    let is = index_row m N u has only in
     record {
-      nodes-are = nodes-are m N p h;
-      nodes-once = nodes-once m [] (tree m N) u;
-      node-count = node-count m N p h;
-      node-digits = node-digits m N p h;
-      index-row = is;
-      row-index = row-index m N u has only;
-      one-row = one-row m N u has only;
-      extract-row = λ row l. extract-row m N row (index m N row) (is row l).0 (is row l).1;
-      rank-row = λ row l. rank-row m N row (index m N row) (is row l).0 (is row l).1;
+      nodes_are = nodes_are m N p h;
+      nodes_once = nodes_once m [] (tree m N) u;
+      node_count = node_count m N p h;
+      node_digits = node_digits m N p h;
+      index_row = is;
+      row_index = row_index m N u has only;
+      one_row = one_row m N u has only;
+      extract_row = λ row l. extract_row m N row (index m N row) (is row l).0 (is row l).1;
+      rank_row = λ row l. rank_row m N row (index m N row) (is row l).0 (is row l).1;
       select_row = λ row l. select_row m N row (index m N row) (is row l).0 (is row l).1;
     }
 
@@ -68,8 +68,8 @@ module _ (m N : ℕ) (row before : List ℕ) (bits : ℕ) (e : build m N row (le
       (t.0, n.0, cc)
 
   -- its bytes are the index
-  built : take (byte_count bits) (buildInto m N row before) ≡ index m N row
-  unfolding buildInto index
+  built : take (byte_count bits) (build_into m N row before) ≡ index m N row
+  unfolding build_into index
   built =
       let long : length (index m N row) ≡ byte_count bits = pack-length (bitmaps m N row) ∙ ap byte_count (sym passed.2) in
       ap (λ (o : Outcome ℕ). take (byte_count bits) (buffer o (index m N row) before)) e
@@ -80,8 +80,8 @@ module _ (m N : ℕ) (row before : List ℕ) (bits : ℕ) (e : build m N row (le
       let p = passed.0 in
       let d = index-demand m N (omega (arith, legal-order p)) (legal-alphabet p).0 in
       record {
-        extracts = λ i. d.extract-row row passed.1 i ∙ tree-legal m N (length row) p _;
-        ranks = λ n i. d.rank-row row passed.1 n i ∙ tree-legal m N (length row) p _;
+        extracts = λ i. d.extract_row row passed.1 i ∙ tree-legal m N (length row) p _;
+        ranks = λ n i. d.rank_row row passed.1 n i ∙ tree-legal m N (length row) p _;
         selects = λ n j. d.select_row row passed.1 n j ∙ tree-legal m N (length row) p _;
       }
 

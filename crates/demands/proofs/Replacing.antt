@@ -8,30 +8,30 @@ use native.Mathlib.Decide.{dec_le}
 use lib.ListN.{length, get_or, take, drop, set, replicate, length-append, length-drop, length-replicate, length-set, take-append-drop, replicate-append-replicate}
 use lib.Seq.{length-take-le, take-append_seam, drop-append_seam, drop-append-add, drop-drop, set_split, split_at, set-set, set-get_or}
 use Rattle.lists.proofs.Each.{all_set}
-use Rattle.bits.specs.Bits.{Bytes, bit_of, wordBits, unpack, word_of, bytes_of, pack, padding, count}
+use Rattle.bits.specs.Bits.{Bytes, bit_of, word_bits, unpack, word_of, bytes_of, pack, padding, count}
 use Rattle.bits.proofs.Bytes.{unpack-append}
 use Rattle.bits.proofs.Packing.{bytes_take, unpack-pack}
 use Rattle.codes.specs.Parse.{rest}
 use Rattle.fibonacci.specs.Code.{past, F, value, first, number, size, digits, codeword}
-use Rattle.fibonacci.specs.Encoding.{rowBits, encoding, parseAfter, parse, numbers}
+use Rattle.fibonacci.specs.Encoding.{row_bits, encoding, parse_after, parse, numbers}
 use Rattle.fibonacci.proofs.Rows.{bits-append, encoding-length}
 use Rattle.calls.specs.Calls.{accepted}
-use Rattle.calls.specs.Limits.{is_order, Order, is_number, Legal, isOutside, maxNumber, maxCount}
-use Rattle.calls.specs.Reading.{checkFinished, contents, decode}
+use Rattle.calls.specs.Limits.{is_order, Order, is_number, Legal, is_outside, max_number, max_count}
+use Rattle.calls.specs.Reading.{check_finished, contents, decode}
 use Rattle.calls.proofs.Checks.{is-order, legal-at, accepted-one}
 use Rattle.calls.proofs.Decoding.{Decoded}
-use Rattle.reading.specs.Reading.{fibonacci, read, readInto}
+use Rattle.reading.specs.Reading.{fibonacci, read, read_into}
 use Rattle.reading.proofs.Decoding.{decode_is, decoded-bits, read-row}
 use Rattle.headers.specs.declared.Header.{Header}
-use Rattle.headers.specs.Headers.{headerOf}
-use Rattle.header_reader.specs.Reading.{readHeader}
-use Rattle.replacer.specs.Replacing.{change, replace, filled, replaceInto}
+use Rattle.headers.specs.Headers.{header_of}
+use Rattle.header_reader.specs.Reading.{read_header}
+use Rattle.replacer.specs.Replacing.{change, replace, filled, replace_into}
 use Rattle.replacer.proofs.Replacing.{Changeable, change-accepts, replace-read, replace-is, into}
 use Rattle.demands.specs.Headers.{IsTrue}
 use Rattle.demands.specs.Replacing.{row_in, Replaced, ReplaceDemand, ReplaceExamples, PreviewDemand, PreviewExamples}
 use Rattle.demands.proofs.RoundTrip.{decode-encoding, decoded-encoding}
 use Rattle.demands.proofs.Truth.{read-header, header_is, bytes-reached}
-use Rattle.demands.proofs.Headers.{read-true}
+use Rattle.demands.proofs.Headers.{read_true}
 
 -- ## Bytes over others
 
@@ -100,7 +100,7 @@ module _ (m : ℕ) (before : List ℕ) (used p n bytes : ℕ) (h : Header) (e : 
   new = set row p n
 
   abbrev after : List ℕ
-  after = replaceInto m before used p n
+  after = replace_into m before used p n
 
   order : Order m
   order = (replace-is m before used p n (bytes, h) e).0
@@ -108,7 +108,7 @@ module _ (m : ℕ) (before : List ℕ) (used p n bytes : ℕ) (h : Header) (e : 
   within : used ≤ length before
   within = (replace-is m before used p n (bytes, h) e).1
 
-  was_read : decode (fibonacci m) maxNumber (take used before) ≡ accepted row
+  was_read : decode (fibonacci m) max_number (take used before) ≡ accepted row
   was_read = (replace-is m before used p n (bytes, h) e).2
 
   can : Changeable m (length before) row p n
@@ -117,16 +117,16 @@ module _ (m : ℕ) (before : List ℕ) (used p n bytes : ℕ) (h : Header) (e : 
   bytes-new : bytes ≡ length (encoding m new)
   bytes-new = ap (λ (x : ℕ × Header). x.0) (replace-is m before used p n (bytes, h) e).4
 
-  header-new : h ≡ headerOf m new
+  header-new : h ≡ header_of m new
   header-new = ap (λ (x : ℕ × Header). x.1) (replace-is m before used p n (bytes, h) e).4
 
-  old : Decoded (fibonacci m) maxNumber (take used before) row
-  old = decode_is m maxNumber (take used before) row was_read
+  old : Decoded (fibonacci m) max_number (take used before) row
+  old = decode_is m max_number (take used before) row was_read
 
-  new-legal : Legal maxNumber new
-  new-legal = all_set (λ k. is_number maxNumber k ≡ true) row p n old.legal can.legal
+  new-legal : Legal max_number new
+  new-legal = all_set (λ k. is_number max_number k ≡ true) row p n old.legal can.legal
 
-  new-long : length new ≤ maxCount
+  new-long : length new ≤ max_count
   new-long = omega (arith, length-set row p n, old.long)
 
   after_is : after ≡ over (encoding m new) used before
@@ -142,59 +142,59 @@ module _ (m : ℕ) (before : List ℕ) (used p n bytes : ℕ) (h : Header) (e : 
   pub in_use : take bytes after ≡ encoding m new
   in_use = ap₂ take bytes-new after_is ∙ take-append_seam (encoding m new) _
 
-  read-after : decode (fibonacci m) maxNumber (take bytes after) ≡ accepted new
-  read-after = ap (decode (fibonacci m) maxNumber) in_use ∙ decode-encoding m new order new-long new-legal
+  read-after : decode (fibonacci m) max_number (take bytes after) ≡ accepted new
+  read-after = ap (decode (fibonacci m) max_number) in_use ∙ decode-encoding m new order new-long new-legal
 
-  header-true : IsTrue m after h
-  header-true =
+  header_true : IsTrue m after h
+  header_true =
       rw (after_is, header-new)
-      (read-true m (encoding m new) _ (headerOf m new) (read-header m (encoding m new) new order (decode-encoding m new order new-long new-legal)))
+      (read_true m (encoding m new) _ (header_of m new) (read-header m (encoding m new) new order (decode-encoding m new order new-long new-legal)))
 
   reads : (out : List ℕ) → h.count ≤ length out
-      → (read m (take bytes after) (length out) ≡ accepted (length new)) × (readInto m (take bytes after) out ≡ new ++ drop (length new) out)
+      → (read m (take bytes after) (length out) ≡ accepted (length new)) × (read_into m (take bytes after) out ≡ new ++ drop (length new) out)
   reads out l = read-row m (take bytes after) out order new read-after (omega (arith, ap (λ (g : Header). g.count) header-new))
 
   -- ## Bits before the place
 
   abbrev kept : List Bool
-  kept = rowBits m (take p row)
+  kept = row_bits m (take p row)
 
-  kept-after : (t : List Bool) → unpack after ≡ rowBits m new ++ t → take (length kept) (unpack after) ≡ kept
-  unfolding rowBits flatten
+  kept-after : (t : List Bool) → unpack after ≡ row_bits m new ++ t → take (length kept) (unpack after) ≡ kept
+  unfolding row_bits flatten
   kept-after t u =
-      ap (take (length kept)) (u ∙ ap (λ (b : List Bool). b ++ t) (ap (rowBits m) (set_split row p n can.within) ∙ bits-append m (take p row) (n ∷ drop (suc p) row))
+      ap (take (length kept)) (u ∙ ap (λ (b : List Bool). b ++ t) (ap (row_bits m) (set_split row p n can.within) ∙ bits-append m (take p row) (n ∷ drop (suc p) row))
       ∙ append_assoc kept _ t)
       ∙ take-append_seam kept _
 
-  kept-before : (t : List Bool) → unpack before ≡ rowBits m row ++ t → take (length kept) (unpack before) ≡ kept
-  unfolding rowBits flatten
+  kept-before : (t : List Bool) → unpack before ≡ row_bits m row ++ t → take (length kept) (unpack before) ≡ kept
+  unfolding row_bits flatten
   kept-before t u =
-      ap (take (length kept)) (u ∙ ap (λ (b : List Bool). b ++ t) (ap (rowBits m) (split_at row p 0 can.within) ∙ bits-append m (take p row) (get_or row p 0 ∷ drop (suc p) row))
+      ap (take (length kept)) (u ∙ ap (λ (b : List Bool). b ++ t) (ap (row_bits m) (split_at row p 0 can.within) ∙ bits-append m (take p row) (get_or row p 0 ∷ drop (suc p) row))
       ∙ append_assoc kept _ t)
       ∙ take-append_seam kept _
 
-  keeps-bits : take (length kept) (unpack after) ≡ take (length kept) (unpack before)
+  keeps_bits : take (length kept) (unpack after) ≡ take (length kept) (unpack before)
   unfolding encoding
-  keeps-bits =
+  keeps_bits =
       let rest-after : List ℕ = replicate (used - length (encoding m new)) 0 ++ drop (max (length (encoding m new)) used) before in
-      let u : unpack after ≡ rowBits m new ++ (replicate (padding (length (rowBits m new))) false ++ unpack rest-after) =
-      ap unpack after_is ∙ unpack-append (encoding m new) rest-after ∙ ap (λ (b : List Bool). b ++ unpack rest-after) (unpack-pack (rowBits m new))
-      ∙ append_assoc (rowBits m new) (replicate (padding (length (rowBits m new))) false) (unpack rest-after) in
+      let u : unpack after ≡ row_bits m new ++ (replicate (padding (length (row_bits m new))) false ++ unpack rest-after) =
+      ap unpack after_is ∙ unpack-append (encoding m new) rest-after ∙ ap (λ (b : List Bool). b ++ unpack rest-after) (unpack-pack (row_bits m new))
+      ∙ append_assoc (row_bits m new) (replicate (padding (length (row_bits m new))) false) (unpack rest-after) in
       let z : ℕ = length (rest (parse m (unpack (take used before)))) in
-      let v : unpack before ≡ rowBits m row ++ (replicate z false ++ unpack (drop used before)) =
+      let v : unpack before ≡ row_bits m row ++ (replicate z false ++ unpack (drop used before)) =
       ap unpack (sym (take-append-drop used before)) ∙ unpack-append (take used before) (drop used before)
-      ∙ ap (λ (b : List Bool). b ++ unpack (drop used before)) (decoded-bits m maxNumber (take used before) row (omega (arith, order)) old)
-      ∙ append_assoc (rowBits m row) (replicate z false) (unpack (drop used before)) in
+      ∙ ap (λ (b : List Bool). b ++ unpack (drop used before)) (decoded-bits m max_number (take used before) row (omega (arith, order)) old)
+      ∙ append_assoc (row_bits m row) (replicate z false) (unpack (drop used before)) in
       kept-after _ u ∙ sym (kept-before _ v)
 
 -- ## Replacing again
 
 module _ (m : ℕ) (before : List ℕ) (used p n bytes : ℕ) (h : Header) (e : replace m before used p n ≡ accepted (bytes, h)) where
-  again : (k : ℕ) → replace m (replaceInto m before used p n) bytes p k ≡ replace m before used p k
+  again : (k : ℕ) → replace m (replace_into m before used p n) bytes p k ≡ replace m before used p k
   unfolding change
   again k =
       let row : List ℕ = row_in m before used in
-      let after : List ℕ = replaceInto m before used p n in
+      let after : List ℕ = replace_into m before used p n in
       let o = is-order m (order m before used p n bytes h e) in
       let same = after-length m before used p n bytes h e in
       let long : bytes ≤ length after = omega (arith, bytes-new m before used p n bytes h e, (can m before used p n bytes h e).fits) in
@@ -207,48 +207,48 @@ module _ (m : ℕ) (before : List ℕ) (used p n bytes : ℕ) (h : Header) (e : 
     abbrev last : List ℕ
     last = encoding m (set (row_in m before used) p k)
 
-    twice : replace m (replaceInto m before used p n) bytes p k ≡ accepted (b, g)
+    twice : replace m (replace_into m before used p n) bytes p k ≡ accepted (b, g)
     twice = again k ∙ f
 
     -- the row that the second replacement changes
-    last-is : encoding m (set (row_in m (replaceInto m before used p n) bytes) p k) ≡ last
+    last-is : encoding m (set (row_in m (replace_into m before used p n) bytes) p k) ≡ last
     last-is =
         let row : List ℕ = row_in m before used in
-        ap (λ (r : List ℕ). encoding m (set r p k)) (sym (decode_is m maxNumber _ (set row p n) (read-after m before used p n bytes h e)).is)
+        ap (λ (r : List ℕ). encoding m (set r p k)) (sym (decode_is m max_number _ (set row p n) (read-after m before used p n bytes h e)).is)
         ∙ ap (encoding m) (set-set row p n k)
 
-    pub again-in-use : take b (replaceInto m (replaceInto m before used p n) bytes p k) ≡ take b (replaceInto m before used p k)
-    again-in-use = in_use m (replaceInto m before used p n) bytes p k b g twice ∙ last-is ∙ sym (in_use m before used p k b g f)
+    pub again_in_use : take b (replace_into m (replace_into m before used p n) bytes p k) ≡ take b (replace_into m before used p k)
+    again_in_use = in_use m (replace_into m before used p n) bytes p k b g twice ∙ last-is ∙ sym (in_use m before used p k b g f)
 
-    pub again-into : bytes ≤ max used b → replaceInto m (replaceInto m before used p n) bytes p k ≡ replaceInto m before used p k
-    again-into l =
+    pub again_into : bytes ≤ max used b → replace_into m (replace_into m before used p n) bytes p k ≡ replace_into m before used p k
+    again_into l =
         let x : List ℕ = encoding m (set (row_in m before used) p n) in
         let lx : bytes ≡ length x = bytes-new m before used p n bytes h e in
-        after_is m (replaceInto m before used p n) bytes p k b g twice ∙ ap (λ (y : List ℕ). over y bytes (replaceInto m before used p n)) last-is
+        after_is m (replace_into m before used p n) bytes p k b g twice ∙ ap (λ (y : List ℕ). over y bytes (replace_into m before used p n)) last-is
         ∙ ap₂ (λ (j : ℕ) (z : List ℕ). over last j z) lx (after_is m before used p n bytes h e)
         ∙ over-over x last used before (omega (arith, l, lx, bytes-new m before used p k b g f)) ∙ sym (after_is m before used p k b g f)
 
 pub replaced : (m : ℕ) (before : List ℕ) (used p n bytes : ℕ) (h : Header) → replace m before used p n ≡ accepted (bytes, h) → Replaced m before used p n bytes h
 replaced m before used p n bytes h e =
     record {
-      header-true = header-true m before used p n bytes h e;
+      header_true = header_true m before used p n bytes h e;
       reads = reads m before used p n bytes h e;
-      keeps-bits = keeps-bits m before used p n bytes h e;
+      keeps_bits = keeps_bits m before used p n bytes h e;
       again = again m before used p n bytes h e;
-      again-in-use = again-in-use m before used p n bytes h e;
-      again-into = again-into m before used p n bytes h e;
+      again_in_use = again_in_use m before used p n bytes h e;
+      again_into = again_into m before used p n bytes h e;
     }
 
 -- ## The same number
 
-module _ (m : ℕ) (before : List ℕ) (used p : ℕ) (h : Header) (l : used ≤ length before) (e : readHeader m (take used before) ≡ accepted h) (i : p < h.count) where
+module _ (m : ℕ) (before : List ℕ) (used p : ℕ) (h : Header) (l : used ≤ length before) (e : read_header m (take used before) ≡ accepted h) (i : p < h.count) where
   abbrev held : List ℕ
   held = row_in m before used
 
   same_row : set held p (get_or held p 0) ≡ held
   same_row = set-get_or held p 0
 
-  held-is : Order m × (decode (fibonacci m) maxNumber (take used before) ≡ accepted held) × (h ≡ headerOf m held)
+  held-is : Order m × (decode (fibonacci m) max_number (take used before) ≡ accepted held) × (h ≡ header_of m held)
   held-is = header_is m (take used before) h e
 
   same_bytes : length (encoding m held) ≡ used
@@ -257,16 +257,16 @@ module _ (m : ℕ) (before : List ℕ) (used p : ℕ) (h : Header) (l : used ≤
 
   same_number : replace m before used p (get_or held p 0) ≡ accepted (used, h)
   same_number =
-      let d = decode_is m maxNumber (take used before) held held-is.1 in
+      let d = decode_is m max_number (take used before) held held-is.1 in
       let inside : p < length held = omega (arith, ap (λ (g : Header). g.count) held-is.2) in
       let fits : length (encoding m (set held p (get_or held p 0))) ≤ length before = omega (arith, ap (λ (r : List ℕ). length (encoding m r)) same_row, same_bytes) in
       replace-read m before used p (get_or held p 0) (is-order m held-is.0) l held held-is.1
-      ∙ change-accepts m (length before) held p (get_or held p 0) (record { within = inside; legal = legal-at maxNumber held p d.legal inside; fits = fits })
-      ∙ ap (λ (r : List ℕ). accepted (length (encoding m r), headerOf m r)) same_row
+      ∙ change-accepts m (length before) held p (get_or held p 0) (record { within = inside; legal = legal-at max_number held p d.legal inside; fits = fits })
+      ∙ ap (λ (r : List ℕ). accepted (length (encoding m r), header_of m r)) same_row
       ∙ ap₂ (λ (k : ℕ) (g : Header). accepted (k, g)) same_bytes (sym held-is.2)
 
-  same-buffer : Bytes before → replaceInto m before used p (get_or held p 0) ≡ before
-  same-buffer b =
+  same_buffer : Bytes before → replace_into m before used p (get_or held p 0) ≡ before
+  same_buffer b =
       let x : List ℕ = encoding m held in
       let is : take used before ≡ x = decoded-encoding m (take used before) held held-is.0 (bytes_take used before b) held-is.1 in
       let none : used - length x ≡ 0 = omega (arith, same_bytes) in
@@ -277,33 +277,33 @@ module _ (m : ℕ) (before : List ℕ) (used p : ℕ) (h : Header) (l : used ≤
 -- ## All of it
 
 pub replace-demand : (m : ℕ) → ReplaceDemand m
-replace-demand m = record { replaced = replaced m; same_number = same_number m; same-buffer = same-buffer m }
+replace-demand m = record { replaced = replaced m; same_number = same_number m; same_buffer = same_buffer m }
 
 pub preview-demand : (m : ℕ) → PreviewDemand m
-preview-demand m = record { same_answer = λ buf used p n. refl; header-true = header-true m; kept = again m }
+preview-demand m = record { same_answer = λ buf used p n. refl; header_true = header_true m; kept = again m }
 
-pub replace-examples : ReplaceExamples
-unfolding flatten bit_of wordBits unpack word_of bytes_of pack count past F value first number size digits codeword rowBits encoding parseAfter parse numbers is_order is_number isOutside checkFinished contents decode change replace replaceInto
-replace-examples =
+pub replace_examples : ReplaceExamples
+unfolding flatten bit_of word_bits unpack word_of bytes_of pack count past F value first number size digits codeword row_bits encoding parse_after parse numbers is_order is_number is_outside check_finished contents decode change replace replace_into
+replace_examples =
     record {
       shorter = refl;
-      shorter-into = refl;
+      shorter_into = refl;
       inside = refl;
-      inside-into = refl;
-      past-the-row = refl;
-      longer-into = refl;
+      inside_into = refl;
+      past_the_row = refl;
+      longer_into = refl;
       too_long = refl;
-      again-further = refl;
+      again_further = refl;
       at_first = refl;
     }
 
-pub preview-examples : PreviewExamples
-unfolding flatten bit_of wordBits unpack word_of bytes_of pack count past F value first number size digits codeword rowBits encoding parseAfter parse numbers is_order is_number isOutside checkFinished contents decode readHeader change replace
-preview-examples =
+pub preview_examples : PreviewExamples
+unfolding flatten bit_of word_bits unpack word_of bytes_of pack count past F value first number size digits codeword row_bits encoding parse_after parse numbers is_order is_number is_outside check_finished contents decode read_header change replace
+preview_examples =
     record {
       longer = refl;
-      true-after = refl;
-      not-before = λ e. let bits : ◌≡◌ {A = ℕ} 2 6 = ap (λ (h : Header). h.bits) (accepted-one e) in omega arith;
+      true_after = refl;
+      not_before = λ e. let bits : ◌≡◌ {A = ℕ} 2 6 = ap (λ (h : Header). h.bits) (accepted-one e) in omega arith;
       too_long = refl;
-      long-enough = refl;
+      long_enough = refl;
     }

@@ -15,59 +15,59 @@ use Rattle.lists.proofs.Sums.{sum_same}
 use Rattle.fibonacci.specs.Encoding.{encoding}
 use Rattle.calls.specs.declared.Refusal.TheVariants.{BadOrder, BadSpan, BadRepeats, TooMuchShared}
 use Rattle.calls.specs.Calls.{accepted, check, and_then}
-use Rattle.calls.specs.Limits.{is_order, Order, is_number, maxNumber, maxCount, within}
+use Rattle.calls.specs.Limits.{is_order, Order, is_number, max_number, max_count, within}
 use Rattle.calls.specs.Reading.{decode}
 use Rattle.calls.proofs.Checks.{within_both, is-order, is-number, accepted-one, check-passed, then-passed, check-then, then-then, then_same}
 use Rattle.reading.specs.Reading.{fibonacci}
-use Rattle.totals.specs.Totals.{total, repeatedTotal}
-use Rattle.totals.proofs.Totals.{span-most, row-most, repeats-all, repeats-less, repeats-most}
-use Rattle.demands.specs.Totals.{plainRepeated, largestRow, LargestTotals, TotalsDemand}
+use Rattle.totals.specs.Totals.{total, repeated_total}
+use Rattle.totals.proofs.Totals.{span_most, row-most, repeats-all, repeats-less, repeats-most}
+use Rattle.demands.specs.Totals.{plain_repeated, largest_row, LargestTotals, TotalsDemand}
 use Rattle.demands.proofs.RoundTrip.{decode-encoding}
 
 -- ## What repeats share
 
-none-shared : (m : ℕ) (s : List ℕ) (r : ℕ) → repeatedTotal m s r 0 ≡ plainRepeated m s r
-unfolding repeatedTotal plainRepeated
-none-shared m s r =
+none_shared : (m : ℕ) (s : List ℕ) (r : ℕ) → repeated_total m s r 0 ≡ plain_repeated m s r
+unfolding repeated_total plain_repeated
+none_shared m s r =
     ap (check BadOrder (not (is_order m)))
-    (then_same (decode (fibonacci m) maxNumber s) _ _ (λ row.
+    (then_same (decode (fibonacci m) max_number s) _ _ (λ row.
     ap (check BadRepeats (not (within 1 10000 r))) (rw (le-ltb (sum row) 0 (omega arith), mul-zero (r - 1), sub-zero (r * sum row)) refl)))
 
-one-repeat : (m : ℕ) (s : List ℕ) (shared : ℕ)
-    → repeatedTotal m s 1 shared ≡ and_then (plainRepeated m s 1) (λ x. check TooMuchShared (ltb x shared) (accepted x))
-unfolding repeatedTotal plainRepeated
-one-repeat m s shared =
-    let d = decode (fibonacci m) maxNumber s in
+one_repeat : (m : ℕ) (s : List ℕ) (shared : ℕ)
+    → repeated_total m s 1 shared ≡ and_then (plain_repeated m s 1) (λ x. check TooMuchShared (ltb x shared) (accepted x))
+unfolding repeated_total plain_repeated
+one_repeat m s shared =
+    let d = decode (fibonacci m) max_number s in
     sym (check-then BadOrder (not (is_order m)) _ _
     ∙ ap (check BadOrder (not (is_order m)))
     (then-then d _ _ ∙ then_same d _ _ (λ row. rw (one-mul (sum row), zero-mul shared, sub-zero (sum row)) refl)))
 
 -- what passes every check is accepted
-accepts : (m : ℕ) (s row : List ℕ) (r shared : ℕ) → Order m → decode (fibonacci m) maxNumber s ≡ accepted row → (1 ≤ r) × (r ≤ 10000) → shared ≤ sum row
-    → repeatedTotal m s r shared ≡ accepted (r * sum row - (r - 1) * shared)
-unfolding repeatedTotal
+accepts : (m : ℕ) (s row : List ℕ) (r shared : ℕ) → Order m → decode (fibonacci m) max_number s ≡ accepted row → (1 ≤ r) × (r ≤ 10000) → shared ≤ sum row
+    → repeated_total m s r shared ≡ accepted (r * sum row - (r - 1) * shared)
+unfolding repeated_total
 accepts m s row r shared o d h l = rw (is-order m o, d, le-leb 1 r h.0, le-leb r 10000 h.1, le-ltb (sum row) shared l) refl
 
-all-shared : (m : ℕ) (s row : List ℕ) (r : ℕ) → Order m → decode (fibonacci m) maxNumber s ≡ accepted row → (1 ≤ r) × (r ≤ 10000)
-    → repeatedTotal m s r (sum row) ≡ accepted (sum row)
-all-shared m s row r o d h =
+all_shared : (m : ℕ) (s row : List ℕ) (r : ℕ) → Order m → decode (fibonacci m) max_number s ≡ accepted row → (1 ≤ r) × (r ≤ 10000)
+    → repeated_total m s r (sum row) ≡ accepted (sum row)
+all_shared m s row r o d h =
     let t = sum row in
     let none : (r - 1) * (t - t) ≡ 0 = ap (λ (k : ℕ). (r - 1) * k) (sub_self t) ∙ mul-zero (r - 1) in
     let width : r * t - (r - 1) * t ≡ t = omega (arith, repeats-less r t t h.0 (omega arith)) in
     accepts m s row r t o d h (omega arith) ∙ ap accepted width
 
 -- and what is accepted has passed every check
-passed : (m : ℕ) (s : List ℕ) (r shared x : ℕ) → repeatedTotal m s r shared ≡ accepted x
-    → (row : List ℕ) × (decode (fibonacci m) maxNumber s ≡ accepted row) × ((1 ≤ r) × (r ≤ 10000)) × (shared ≤ sum row) × (r * sum row - (r - 1) * shared ≡ x)
-unfolding repeatedTotal
+passed : (m : ℕ) (s : List ℕ) (r shared x : ℕ) → repeated_total m s r shared ≡ accepted x
+    → (row : List ℕ) × (decode (fibonacci m) max_number s ≡ accepted row) × ((1 ≤ r) × (r ≤ 10000)) × (shared ≤ sum row) × (r * sum row - (r - 1) * shared ≡ x)
+unfolding repeated_total
 passed m s r shared x e =
     let o = check-passed BadOrder (not (is_order m)) _ x e in
-    let d = then-passed (decode (fibonacci m) maxNumber s) _ x o.1 in
+    let d = then-passed (decode (fibonacci m) max_number s) _ x o.1 in
     let p = check-passed BadRepeats (not (within 1 10000 r)) _ x d.2 in
     let q = check-passed TooMuchShared (ltb (sum d.0) shared) _ x p.1 in
     (d.0, d.1, within_both 1 10000 r (not-false _ p.0), ltb-false _ _ q.0, accepted-one q.1)
 
-exact : (m : ℕ) (s row : List ℕ) (r shared x : ℕ) → decode (fibonacci m) maxNumber s ≡ accepted row → repeatedTotal m s r shared ≡ accepted x
+exact : (m : ℕ) (s row : List ℕ) (r shared x : ℕ) → decode (fibonacci m) max_number s ≡ accepted row → repeated_total m s r shared ≡ accepted x
     → x + (r - 1) * shared ≡ r * sum row
 exact m s row r shared x d e =
     let p = passed m s r shared x e in
@@ -76,28 +76,28 @@ exact m s row r shared x d e =
 
 -- ## The largest totals
 
-decode-largest : (m : ℕ) → Order m → decode (fibonacci m) maxNumber (encoding m largestRow) ≡ accepted largestRow
-unfolding largestRow
+decode-largest : (m : ℕ) → Order m → decode (fibonacci m) max_number (encoding m largest_row) ≡ accepted largest_row
+unfolding largest_row
 decode-largest m o =
-    decode-encoding m largestRow o (omega (arith, length-replicate maxCount maxNumber))
-    (all_same (λ n. is_number maxNumber n ≡ true) maxCount maxNumber (is-number maxNumber maxNumber (omega arith) (omega arith)))
+    decode-encoding m largest_row o (omega (arith, length-replicate max_count max_number))
+    (all_same (λ n. is_number max_number n ≡ true) max_count max_number (is-number max_number max_number (omega arith) (omega arith)))
 
 largest : LargestTotals
-unfolding total repeatedTotal largestRow
+unfolding total repeated_total largest_row
 largest =
     record {
       span = λ m o.
-          let l = length-replicate maxCount maxNumber in
-          rw (is-order m o, decode-largest m o) (ap accepted (ap sum (take_all maxCount largestRow (omega arith)) ∙ sum_same maxCount maxNumber));
-      span-most = λ m s a b x e.
+          let l = length-replicate max_count max_number in
+          rw (is-order m o, decode-largest m o) (ap accepted (ap sum (take_all max_count largest_row (omega arith)) ∙ sum_same max_count max_number));
+      span_most = λ m s a b x e.
           let o = check-passed BadOrder (not (is_order m)) _ x e in
-          let d = then-passed (decode (fibonacci m) maxNumber s) _ x o.1 in
+          let d = then-passed (decode (fibonacci m) max_number s) _ x o.1 in
           let p = check-passed BadSpan (ltb b a) _ x d.2 in
           let q = check-passed BadSpan (ltb (length d.0) b) _ x p.1 in
-          omega (arith, span-most m s d.0 d.1 a b, accepted-one q.1);
+          omega (arith, span_most m s d.0 d.1 a b, accepted-one q.1);
       repeated = λ m o.
-          rw (is-order m o, decode-largest m o) (ap (λ (x : ℕ). check TooMuchShared (ltb x 0) (accepted (10000 * x - 9999 * 0))) (sum_same maxCount maxNumber));
-      repeated-most = λ m s r shared x e.
+          rw (is-order m o, decode-largest m o) (ap (λ (x : ℕ). check TooMuchShared (ltb x 0) (accepted (10000 * x - 9999 * 0))) (sum_same max_count max_number));
+      repeated_most = λ m s r shared x e.
           let p = passed m s r shared x e in
           let t = sum p.0 in
           omega (arith, p.4, repeats-less r t shared p.2.0 p.3, repeats-most r t shared p.2.0 p.3 p.2.1 (row-most m s p.0 p.1));
@@ -107,9 +107,9 @@ largest =
 pub totals-demand : TotalsDemand
 totals-demand =
     record {
-      none-shared = none-shared;
-      one-repeat = one-repeat;
-      all-shared = all-shared;
+      none_shared = none_shared;
+      one_repeat = one_repeat;
+      all_shared = all_shared;
       accepts = λ m s row r shared o d h l. (r * sum row - (r - 1) * shared, accepts m s row r shared o d h l);
       exact = exact;
       largest = largest;

@@ -15,11 +15,11 @@ use Rattle.bits.specs.Bits.{byte_count, unpack, pack, count}
 use Rattle.bits.proofs.Bytes.{unpack-length, unpack-take}
 use Rattle.codes.specs.Parse.{rest}
 use Rattle.fibonacci.specs.Code.{number, codeword}
-use Rattle.fibonacci.specs.Encoding.{rowBits, encoding, parse, numbers}
+use Rattle.fibonacci.specs.Encoding.{row_bits, encoding, parse, numbers}
 use Rattle.fibonacci.proofs.Rows.{bits-snoc, numbers-bits, encoding-length, encoding-read, bits-few}
 use Rattle.calls.specs.declared.Refusal.TheVariants.{BadOrder}
 use Rattle.calls.specs.Calls.{accepted}
-use Rattle.calls.specs.Limits.{is_order, Order, is_number, Legal, maxNumber, maxCount}
+use Rattle.calls.specs.Limits.{is_order, Order, is_number, Legal, max_number, max_count}
 use Rattle.calls.specs.Reading.{decode}
 use Rattle.calls.proofs.Checks.{order_is, is-order, positive, check-passed, then-passed, accepted-one}
 use Rattle.calls.proofs.Decoding.{Decoded}
@@ -27,14 +27,14 @@ use Rattle.calls.proofs.Writing.{Writable}
 use Rattle.reading.specs.Reading.{fibonacci}
 use Rattle.reading.proofs.Decoding.{decode_is, decoded-rest}
 use Rattle.headers.specs.declared.Header.{Header}
-use Rattle.headers.specs.Headers.{header, headerOf}
+use Rattle.headers.specs.Headers.{header, header_of}
 use Rattle.headers.proofs.Headers.{capacity-most, capacity-least, Good}
 use Rattle.totals.specs.Totals.{total}
 use Rattle.totals.proofs.Totals.{row-most}
-use Rattle.header_reader.specs.Reading.{readHeader}
-use Rattle.encoder.specs.Writing.{write, writeInto}
+use Rattle.header_reader.specs.Reading.{read_header}
+use Rattle.encoder.specs.Writing.{write, write_into}
 use Rattle.encoder.proofs.Writing.{writing, write-is, write-accepts}
-use Rattle.appender.specs.Appending.{extended, append, appendInto}
+use Rattle.appender.specs.Appending.{extended, append, append_into}
 use Rattle.appender.proofs.Appending.{Appendable, append-is, append-accepts}
 use Rattle.demands.specs.Headers.{reached, IsTrue, row_of}
 use Rattle.demands.proofs.RoundTrip.{decode-encoding, front, write-into}
@@ -42,30 +42,30 @@ use Rattle.demands.proofs.RoundTrip.{decode-encoding, front, write-into}
 -- ## Headers that are read
 
 module _ (m : ℕ) (s : List ℕ) where
-  pub read-header : (row : List ℕ) → Order m → decode (fibonacci m) maxNumber s ≡ accepted row → readHeader m s ≡ accepted (headerOf m row)
-  unfolding readHeader
+  pub read-header : (row : List ℕ) → Order m → decode (fibonacci m) max_number s ≡ accepted row → read_header m s ≡ accepted (header_of m row)
+  unfolding read_header
   read-header row o e = rw (is-order m o, e) refl
 
-  module _ (h : Header) (e : readHeader m s ≡ accepted h) where
+  module _ (h : Header) (e : read_header m s ≡ accepted h) where
     -- the order is in use, and the header is that of the row that is read
-    pub header_is : Order m × (decode (fibonacci m) maxNumber s ≡ accepted (numbers m (unpack s))) × (h ≡ headerOf m (numbers m (unpack s)))
-    unfolding readHeader
+    pub header_is : Order m × (decode (fibonacci m) max_number s ≡ accepted (numbers m (unpack s))) × (h ≡ header_of m (numbers m (unpack s)))
+    unfolding read_header
     header_is =
         let p = check-passed BadOrder (not (is_order m)) _ _ e in
-        let t = then-passed (decode (fibonacci m) maxNumber s) _ _ p.1 in
-        let is : t.0 ≡ numbers m (unpack s) = (decode_is m maxNumber s t.0 t.1).is in
-        (order_is m (not-false _ p.0), t.1 ∙ ap accepted is, sym (accepted-one t.2) ∙ ap (headerOf m) is)
+        let t = then-passed (decode (fibonacci m) max_number s) _ _ p.1 in
+        let is : t.0 ≡ numbers m (unpack s) = (decode_is m max_number s t.0 t.1).is in
+        (order_is m (not-false _ p.0), t.1 ∙ ap accepted is, sym (accepted-one t.2) ∙ ap (header_of m) is)
 
     abbrev row : List ℕ
     row = numbers m (unpack s)
 
-    decoded : Decoded (fibonacci m) maxNumber s row
-    decoded = decode_is m maxNumber s row header_is.1
+    decoded : Decoded (fibonacci m) max_number s row
+    decoded = decode_is m max_number s row header_is.1
 
-    begins : rowBits m row ++ rest (parse m (unpack s)) ≡ unpack s
+    begins : row_bits m row ++ rest (parse m (unpack s)) ≡ unpack s
     begins = numbers-bits m (unpack s) (omega (arith, header_is.0))
 
-    bits_are : h.bits ≡ length (rowBits m row)
+    bits_are : h.bits ≡ length (row_bits m row)
     bits_are = ap (λ (g : Header). g.bits) header_is.2
 
     -- its bits reach all of the bytes
@@ -74,15 +74,15 @@ module _ (m : ℕ) (s : List ℕ) where
         omega (
           arith,
           bits_are,
-          (decoded-rest m maxNumber s row decoded).0,
+          (decoded-rest m max_number s row decoded).0,
           ap length begins,
-          length-append (rowBits m row) (rest (parse m (unpack s))),
+          length-append (row_bits m row) (rest (parse m (unpack s))),
           unpack-length s,
         )
 
 -- ## True headers
 
-total-whole : (m : ℕ) (s row : List ℕ) → Order m → decode (fibonacci m) maxNumber s ≡ accepted row → total m s 0 (length row) ≡ accepted (sum row)
+total-whole : (m : ℕ) (s row : List ℕ) → Order m → decode (fibonacci m) max_number s ≡ accepted row → total m s 0 (length row) ≡ accepted (sum row)
 unfolding total
 total-whole m s row o e =
     rw (is-order m o, e)
@@ -92,13 +92,13 @@ module _ (m : ℕ) (buf : List ℕ) (h : Header) (e : IsTrue m buf h) where
   pub true-order : Order m
   true-order = (header_is m (reached buf h) h e).0
 
-  pub true-row : h ≡ headerOf m (row_of m buf h)
-  true-row = (header_is m (reached buf h) h e).2
+  pub true_row : h ≡ header_of m (row_of m buf h)
+  true_row = (header_is m (reached buf h) h e).2
 
-  true-bits : h.bits ≡ length (rowBits m (row_of m buf h))
+  true-bits : h.bits ≡ length (row_bits m (row_of m buf h))
   true-bits = bits_are m (reached buf h) h e
 
-  true-legal : (length (row_of m buf h) ≤ maxCount) × Legal maxNumber (row_of m buf h)
+  true-legal : (length (row_of m buf h) ≤ max_count) × Legal max_number (row_of m buf h)
   true-legal = let d = decoded m (reached buf h) h e in (d.long, d.legal)
 
   -- the bytes that are reached stand in the buffer
@@ -106,44 +106,44 @@ module _ (m : ℕ) (buf : List ℕ) (h : Header) (e : IsTrue m buf h) where
   true-within = omega (arith, bytes-reached m (reached buf h) h e, length-take (byte_count h.bits) buf)
 
   -- its bits are those of the row
-  true-begins : take h.bits (unpack buf) ≡ rowBits m (row_of m buf h)
+  true-begins : take h.bits (unpack buf) ≡ row_bits m (row_of m buf h)
   true-begins =
-      let r : List Bool = rowBits m (row_of m buf h) in
+      let r : List Bool = row_bits m (row_of m buf h) in
       sym (take-take h.bits (8 * byte_count h.bits) (unpack buf) (omega arith))
       ∙ ap (take h.bits) (sym (unpack-take buf (byte_count h.bits)) ∙ sym (begins m (reached buf h) h e))
       ∙ ap (λ (k : ℕ). take k (r ++ rest (parse m (unpack (reached buf h))))) true-bits ∙ take-append_seam r (rest (parse m (unpack (reached buf h))))
 
-  pub true-good : Good (length buf) h
-  true-good =
+  pub true_good : Good (length buf) h
+  true_good =
       let few = bits-few m (row_of m buf h) true-order true-legal.1 in
       record {
         bits = capacity-least (length buf) h.bits (omega (arith, true-within)) (omega (arith, true-bits, few, true-legal.0));
-        count = omega (arith, ap (λ (g : Header). g.count) true-row, true-legal.0);
-        total = omega (arith, ap (λ (g : Header). g.total) true-row, row-most m (reached buf h) (row_of m buf h) (header_is m (reached buf h) h e).1);
+        count = omega (arith, ap (λ (g : Header). g.count) true_row, true-legal.0);
+        total = omega (arith, ap (λ (g : Header). g.total) true_row, row-most m (reached buf h) (row_of m buf h) (header_is m (reached buf h) h e).1);
       }
 
   -- a whole row's total is read off it
-  pub true-total : total m (reached buf h) 0 h.count ≡ accepted h.total
-  true-total =
-      ap (λ (g : Header). total m (reached buf h) 0 g.count) true-row ∙ total-whole m (reached buf h) (row_of m buf h) true-order (header_is m (reached buf h) h e).1
-      ∙ sym (ap (λ (g : Header). accepted g.total) true-row)
+  pub true_total : total m (reached buf h) 0 h.count ≡ accepted h.total
+  true_total =
+      ap (λ (g : Header). total m (reached buf h) 0 g.count) true_row ∙ total-whole m (reached buf h) (row_of m buf h) true-order (header_is m (reached buf h) h e).1
+      ∙ sym (ap (λ (g : Header). accepted g.total) true_row)
 
 -- ## A number more
 
 -- the header of a row with a number more
-pub extended-is : (m : ℕ) (row : List ℕ) (n : ℕ) → extended m (headerOf m row) n ≡ headerOf m (row ++ (n ∷ []))
+pub extended-is : (m : ℕ) (row : List ℕ) (n : ℕ) → extended m (header_of m row) n ≡ header_of m (row ++ (n ∷ []))
 extended-is m row n =
-    let b : length (rowBits m row) + length (codeword m n) ≡ length (rowBits m (row ++ (n ∷ []))) =
-    sym (ap length (bits-snoc m row n) ∙ length-append (rowBits m row) (codeword m n)) in
+    let b : length (row_bits m row) + length (codeword m n) ≡ length (row_bits m (row ++ (n ∷ []))) =
+    sym (ap length (bits-snoc m row n) ∙ length-append (row_bits m row) (codeword m n)) in
     let c : length row + 1 ≡ length (row ++ (n ∷ [])) = sym (length-append row (n ∷ [])) in
     let t : sum row + n ≡ sum (row ++ (n ∷ [])) = sym (sum-snoc row n) in
     cc
 
-pub legal-begin : (row ns : List ℕ) → Legal maxNumber (row ++ ns) → Legal maxNumber row
+pub legal-begin : (row ns : List ℕ) → Legal max_number (row ++ ns) → Legal max_number row
 legal-begin [] ns a = tt
 legal-begin (n ∷ row) ns a = (a.0, legal-begin row ns a.1)
 
-legal-last : (row : List ℕ) (n : ℕ) → Legal maxNumber (row ++ (n ∷ [])) → is_number maxNumber n ≡ true
+legal-last : (row : List ℕ) (n : ℕ) → Legal max_number (row ++ (n ∷ [])) → is_number max_number n ≡ true
 legal-last [] n a = a.0
 legal-last (k ∷ row) n a = legal-last row n a.1
 
@@ -152,16 +152,16 @@ module _ (m : ℕ) (before : List ℕ) (h : Header) (n : ℕ) (e : IsTrue m befo
   abbrev pub longer : List ℕ
   longer = row_of m before h ++ (n ∷ [])
 
-  extended-true : extended m h n ≡ headerOf m longer
-  extended-true = ap (λ (g : Header). extended m g n) (true-row m before h e) ∙ extended-is m (row_of m before h) n
+  extended-true : extended m h n ≡ header_of m longer
+  extended-true = ap (λ (g : Header). extended m g n) (true_row m before h e) ∙ extended-is m (row_of m before h) n
 
-  longer-bits : (extended m h n).bits ≡ length (rowBits m longer)
+  longer-bits : (extended m h n).bits ≡ length (row_bits m longer)
   longer-bits = ap (λ (g : Header). g.bits) extended-true
 
   longer-count : length longer ≡ h.count + 1
   longer-count = sym (ap (λ (g : Header). g.count) extended-true)
 
-  same_answer : ◌≡◌ {A = ℕ × Header} (byte_count (extended m h n).bits, extended m h n) (length (encoding m longer), headerOf m longer)
+  same_answer : ◌≡◌ {A = ℕ × Header} (byte_count (extended m h n).bits, extended m h n) (length (encoding m longer), header_of m longer)
   same_answer =
       let b : byte_count (extended m h n).bits ≡ length (encoding m longer) = ap byte_count longer-bits ∙ sym (encoding-length m longer) in
       let g = extended-true in
@@ -173,7 +173,7 @@ module _ (m : ℕ) (before : List ℕ) (h : Header) (n : ℕ) (e : IsTrue m befo
       record {
         asked = a.asked;
         count = omega (arith, longer-count, a.count);
-        legal = all_append (λ k. is_number maxNumber k ≡ true) (row_of m before h) (n ∷ []) (true-legal m before h e).1 (a.legal, tt);
+        legal = all_append (λ k. is_number max_number k ≡ true) (row_of m before h) (n ∷ []) (true-legal m before h e).1 (a.legal, tt);
         fits = omega (arith, a.fits, capacity-most (length before), encoding-length m longer, longer-bits);
       }
 
@@ -181,7 +181,7 @@ module _ (m : ℕ) (before : List ℕ) (h : Header) (n : ℕ) (e : IsTrue m befo
   appendable w =
       record {
         asked = w.asked;
-        good = true-good m before h e;
+        good = true_good m before h e;
         legal = legal-last (row_of m before h) n w.legal;
         count = omega (arith, longer-count, w.count);
         fits =
@@ -189,8 +189,8 @@ module _ (m : ℕ) (before : List ℕ) (h : Header) (n : ℕ) (e : IsTrue m befo
             (omega (arith, longer-bits, bits-few m longer (true-order m before h e) w.legal, w.count));
       }
 
-  pub appended-longer : (x : ℕ × Header) → (append m (length before) h n ≡ accepted x) ↔ (write m longer (length before) ≡ accepted x)
-  appended-longer x = (
+  pub appended_longer : (x : ℕ × Header) → (append m (length before) h n ≡ accepted x) ↔ (write m longer (length before) ≡ accepted x)
+  appended_longer x = (
     λ a.
         let i = append-is m (length before) h n x a in
         write-accepts m longer (length before) (writable i.0) ∙ ap accepted (sym same_answer ∙ sym i.1),
@@ -199,36 +199,36 @@ module _ (m : ℕ) (before : List ℕ) (h : Header) (n : ℕ) (e : IsTrue m befo
         append-accepts m (length before) h n (appendable i.0) ∙ ap accepted same_answer ∙ (sym (write-accepts m longer (length before) i.0) ∙ w),
   )
 
-  pub appended-into : (x : ℕ × Header) → append m (length before) h n ≡ accepted x → appendInto m before h n ≡ writeInto m longer before
-  unfolding appendInto encoding
-  appended-into x a =
+  pub appended_into : (x : ℕ × Header) → append m (length before) h n ≡ accepted x → append_into m before h n ≡ write_into m longer before
+  unfolding append_into encoding
+  appended_into x a =
       let w = writable (append-is m (length before) h n x a).0 in
-      let bits : take h.bits (unpack before) ++ codeword m n ≡ rowBits m longer =
+      let bits : take h.bits (unpack before) ++ codeword m n ≡ row_bits m longer =
       ap (λ (b : List Bool). b ++ codeword m n) (true-begins m before h e) ∙ sym (bits-snoc m (row_of m before h) n) in
       rw a (ap (λ (b : List Bool). pack b ++ drop (length (pack b)) before) bits) ∙ sym (write-into m longer before w)
 
 -- ## Writing
 
 module _ (m : ℕ) (row before : List ℕ) (w : Writable (writing m row) (length before)) where
-  reached-front : reached (front m row before) (headerOf m row) ≡ encoding m row
+  reached-front : reached (front m row before) (header_of m row) ≡ encoding m row
   reached-front =
       ap (λ (k : ℕ). take k (front m row before)) (sym (encoding-length m row)) ∙ take-append_seam (encoding m row) (drop (length (encoding m row)) before)
 
-  pub true-front : IsTrue m (front m row before) (headerOf m row)
+  pub true-front : IsTrue m (front m row before) (header_of m row)
   true-front =
       let o = order_is m w.asked in
-      read-header m (reached (front m row before) (headerOf m row)) row o
-      (ap (decode (fibonacci m) maxNumber) reached-front ∙ decode-encoding m row o w.count w.legal)
+      read-header m (reached (front m row before) (header_of m row)) row o
+      (ap (decode (fibonacci m) max_number) reached-front ∙ decode-encoding m row o w.count w.legal)
 
-  pub row-front : row_of m (front m row before) (headerOf m row) ≡ row
+  pub row-front : row_of m (front m row before) (header_of m row) ≡ row
   row-front =
-      ap (λ (s : List ℕ). numbers m (unpack s)) reached-front ∙ encoding-read m row (omega (arith, order_is m w.asked)) (positive maxNumber row w.legal)
+      ap (λ (s : List ℕ). numbers m (unpack s)) reached-front ∙ encoding-read m row (omega (arith, order_is m w.asked)) (positive max_number row w.legal)
 
   pub front_length : length (front m row before) ≡ length before
   front_length =
       omega (arith, length-append (encoding m row) (drop (length (encoding m row)) before), length-drop (length (encoding m row)) before, w.fits)
 
-pub written-true : (m : ℕ) (row before : List ℕ) (bytes : ℕ) (h : Header) → write m row (length before) ≡ accepted (bytes, h) → IsTrue m (writeInto m row before) h
-written-true m row before bytes h e =
+pub written_true : (m : ℕ) (row before : List ℕ) (bytes : ℕ) (h : Header) → write m row (length before) ≡ accepted (bytes, h) → IsTrue m (write_into m row before) h
+written_true m row before bytes h e =
     let i = write-is m row (length before) bytes h e in
     rw (i.2, write-into m row before i.0) (true-front m row before i.0)

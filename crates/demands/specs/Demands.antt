@@ -21,18 +21,18 @@ pub record Demands : Type 0 where
   -- index and its questions
   pub round_trip : (m : ℕ) → RoundTrip m
   pub headers : (m : ℕ) → HeaderDemand m
-  pub header-examples : HeaderExamples
+  pub header_examples : HeaderExamples
   pub replacing : (m : ℕ) → ReplaceDemand m
-  pub replace-examples : ReplaceExamples
+  pub replace_examples : ReplaceExamples
   pub previews : (m : ℕ) → PreviewDemand m
-  pub preview-examples : PreviewExamples
+  pub preview_examples : PreviewExamples
   pub totals : TotalsDemand
   pub index : (m N : ℕ) → 2 ≤ m → 1 ≤ N → IndexDemand m N
   pub built : BuiltAnswers
   -- Paper 02, R-2: the dense code
   pub dense : DenseDemand
   -- Paper 02, R-3: in order 2 the first number with d bits before its two ones is F(d + 1); so with s digits and a 0 it is F(s + 2), and number 1 is F(1)
-  pub first-order-2 : (d : ℕ) → first 2 d ≡ F 2 (suc d)
+  pub first_order_2 : (d : ℕ) → first 2 d ≡ F 2 (suc d)
   -- Paper 01: the listing; its worked examples, and the sentences beside them
   pub listing : ListingDemand
   pub pencil : Pencil

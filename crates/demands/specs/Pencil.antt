@@ -1,17 +1,17 @@
 -- Paper 01, "Knots to check by pencil": P1 to P11 as one table, each line beside what the definitions give.
 use Rattle.std.specs.Prelude.{◌≡◌, Bool, true, false, ℕ, ◌-◌, length, get_or, take, replicate}
 use mathlib.Core.List.{List, [], ◌∷◌, ◌++◌, map, flatten}
-use Rattle.lists.specs.Lists.{valuesFrom}
-use Rattle.bits.specs.Bits.{bitValue}
+use Rattle.lists.specs.Lists.{values_from}
+use Rattle.bits.specs.Bits.{bit_value}
 use Rattle.fibonacci.specs.Code.{value, first, number, codeword}
-use Rattle.calls.specs.Calls.{Outcome, accepted, answerNumber, answerPlace, answerResults, and_then}
+use Rattle.calls.specs.Calls.{Outcome, accepted, answer_number, answer_place, answer_results, and_then}
 use Rattle.headers.specs.declared.Header.{Header}
-use Rattle.reading.specs.Reading.{read, readInto}
+use Rattle.reading.specs.Reading.{read, read_into}
 use Rattle.totals.specs.Totals.{total}
-use Rattle.encoder.specs.Writing.{write, writeInto}
+use Rattle.encoder.specs.Writing.{write, write_into}
 use Rattle.wavelet.specs.Nodes.{tree, nodes}
 use Rattle.wavelet.specs.Bitmaps.{bitmap, bitmaps}
-use Rattle.wavelet.specs.Questions.{build, buildInto, extract, rank, select}
+use Rattle.wavelet.specs.Questions.{build, build_into, extract, rank, select}
 
 -- What is asked: a call, with the room of its output last where it has one, or what the code itself gives
 pub data Example : Type 0 where
@@ -32,7 +32,7 @@ abbrev pub Answer : Type 0
 Answer = ℕ × ℕ × List ℕ × List ℕ
 
 abbrev pub answers : Outcome (List ℕ) → List ℕ → Answer
-answers o output = (answerNumber o, answerPlace o, answerResults [] o, output)
+answers o output = (answer_number o, answer_place o, answer_results [] o, output)
 
 abbrev pub one : Outcome ℕ → Outcome (List ℕ)
 one o = and_then o (λ x. accepted (x ∷ []))
@@ -47,14 +47,14 @@ four o = and_then o (λ x. accepted (x.0 ∷ x.1.bits ∷ x.1.count ∷ x.1.tota
 -- What the definitions give. Of a codeword these are its bits; of the number of a codeword the first number, the relative number and their sum; of bitmaps the
 -- joined ones, or that of node k in their order
 unfoldable pub answer : Example → Answer
-answer (Codeword m n) = answers (accepted (map bitValue (codeword m n))) []
+answer (Codeword m n) = answers (accepted (map bit_value (codeword m n))) []
 answer (Number m w) = answers (accepted (first m (length w - m) ∷ value m 1 (take (length w - m) w) ∷ number m w ∷ [])) []
-answer (Write m row room) = answers (four (write m row room)) (writeInto m row (replicate room 0))
-answer (Read m s room) = answers (one (read m s room)) (readInto m s (replicate room 0))
+answer (Write m row room) = answers (four (write m row room)) (write_into m row (replicate room 0))
+answer (Read m s room) = answers (one (read m s room)) (read_into m s (replicate room 0))
 answer (Total m s a b) = answers (one (total m s a b)) []
-answer (Bitmaps m N row) = answers (accepted (map bitValue (bitmaps m N row))) []
-answer (Bitmap m N row k) = answers (accepted (map bitValue (bitmap m row (get_or (nodes (tree m N)) k [])))) []
-answer (Build m N row room) = answers (one (build m N row room)) (buildInto m N row (replicate room 0))
+answer (Bitmaps m N row) = answers (accepted (map bit_value (bitmaps m N row))) []
+answer (Bitmap m N row k) = answers (accepted (map bit_value (bitmap m row (get_or (nodes (tree m N)) k [])))) []
+answer (Build m N row room) = answers (one (build m N row room)) (build_into m N row (replicate room 0))
 answer (Extract m N k s i) = answers (two (extract m N k s i)) []
 answer (Rank m N k s n i) = answers (two (rank m N k s n i)) []
 answer (Select m N k s n j) = answers (two (select m N k s n j)) []
@@ -74,8 +74,8 @@ abbrev pub row : List ℕ
 row = 3 ∷ 1 ∷ 4 ∷ 2 ∷ 1 ∷ []
 
 -- The codeword of P3, 0110110110111
-abbrev pub sixHundred : List Bool
-sixHundred = false ∷ true ∷ true ∷ false ∷ true ∷ true ∷ false ∷ true ∷ true ∷ false ∷ true ∷ true ∷ true ∷ []
+abbrev pub six_hundred : List Bool
+six_hundred = false ∷ true ∷ true ∷ false ∷ true ∷ true ∷ false ∷ true ∷ true ∷ false ∷ true ∷ true ∷ true ∷ []
 
 abbrev pub pencil : List Line
 pencil =
@@ -85,8 +85,8 @@ pencil =
     -- P2 order 2, row 3, 1, 4, 2, 1: bytes 3E DE, 15 bits
     line (Write 2 row 2) 0 (2 ∷ 15 ∷ 5 ∷ 11 ∷ []) (0x3e ∷ 0xde ∷ []) ∷
     -- P3 order 3, row 600: 0110110110111, bytes 6D B8 (relative 273, first number 327)
-    line (Codeword 3 600) 0 (map bitValue sixHundred) [] ∷
-    line (Number 3 sixHundred) 0 (327 ∷ 273 ∷ 600 ∷ []) [] ∷
+    line (Codeword 3 600) 0 (map bit_value six_hundred) [] ∷
+    line (Number 3 six_hundred) 0 (327 ∷ 273 ∷ 600 ∷ []) [] ∷
     line (Write 3 (600 ∷ []) 2) 0 (2 ∷ 13 ∷ 1 ∷ 600 ∷ []) (0x6d ∷ 0xb8 ∷ []) ∷
     -- P4 order 3, row 1: byte E0
     line (Write 3 (1 ∷ []) 1) 0 (1 ∷ 3 ∷ 1 ∷ 1 ∷ []) (0xe0 ∷ []) ∷
@@ -111,18 +111,18 @@ pencil =
     line (Select 2 4 5 (0x6b ∷ 0x40 ∷ []) 1 3) 12 [] [] ∷ []
 
 -- P11 top 1, row 1, 1: no index bytes, extract 1 gives 1 in 0 looks. It names no order, so it stands in the table once for each
-abbrev pub eachOrder : ℕ → List Line
-eachOrder m =
+abbrev pub each_order : ℕ → List Line
+each_order m =
     line (Build m 1 (1 ∷ 1 ∷ []) 0) 0 (0 ∷ []) [] ∷
     line (Extract m 1 2 [] 1) 0 (1 ∷ 0 ∷ []) [] ∷ []
 
 -- What the orders 2 to 6 give
 abbrev pub orders : {A : Type 0} → (ℕ → A) → List A
-orders f = valuesFrom f 2 5
+orders f = values_from f 2 5
 
 unfoldable pub table : List Line
 unfolding flatten
-table = pencil ++ flatten (orders eachOrder)
+table = pencil ++ flatten (orders each_order)
 
 -- Every line holds
 abbrev pub Pencil : Type 0

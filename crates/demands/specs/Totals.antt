@@ -4,43 +4,43 @@ use Rattle.lists.specs.Lists.{sum}
 use Rattle.fibonacci.specs.Encoding.{encoding}
 use Rattle.calls.specs.declared.Refusal.TheVariants.{BadOrder, BadRepeats, TooMuchShared}
 use Rattle.calls.specs.Calls.{Outcome, accepted, check, and_then}
-use Rattle.calls.specs.Limits.{is_order, Order, maxNumber, maxCount, within}
+use Rattle.calls.specs.Limits.{is_order, Order, max_number, max_count, within}
 use Rattle.calls.specs.Reading.{decode}
 use Rattle.reading.specs.Reading.{fibonacci}
-use Rattle.totals.specs.Totals.{total, repeatedTotal}
+use Rattle.totals.specs.Totals.{total, repeated_total}
 
 -- Paper 01's width, before R-1: r times the row's total
-unfoldable pub plainRepeated : ℕ → List ℕ → ℕ → Outcome ℕ
-plainRepeated m s r = check BadOrder (not (is_order m)) (and_then (decode (fibonacci m) maxNumber s) (λ row.
+unfoldable pub plain_repeated : ℕ → List ℕ → ℕ → Outcome ℕ
+plain_repeated m s r = check BadOrder (not (is_order m)) (and_then (decode (fibonacci m) max_number s) (λ row.
     check BadRepeats (not (within 1 10000 r))
     (accepted (r * sum row))))
 
 -- As many of the largest number as a row can have
-unfoldable pub largestRow : List ℕ
-largestRow = replicate maxCount maxNumber
+unfoldable pub largest_row : List ℕ
+largest_row = replicate max_count max_number
 
 -- "Totals are 64-bit": the largest of a span and of a repeated row are reached in every order; none is larger, and they fit
 pub record LargestTotals : Type 0 where
-  pub span : (m : ℕ) → Order m → total m (encoding m largestRow) 0 maxCount ≡ accepted 17592186040320
-  pub span-most : (m : ℕ) (s : List ℕ) (a b x : ℕ) → total m s a b ≡ accepted x → x ≤ 17592186040320
-  pub repeated : (m : ℕ) → Order m → repeatedTotal m (encoding m largestRow) 10000 0 ≡ accepted 175921860403200000
-  pub repeated-most : (m : ℕ) (s : List ℕ) (r shared x : ℕ) → repeatedTotal m s r shared ≡ accepted x → x ≤ 175921860403200000
+  pub span : (m : ℕ) → Order m → total m (encoding m largest_row) 0 max_count ≡ accepted 17592186040320
+  pub span_most : (m : ℕ) (s : List ℕ) (a b x : ℕ) → total m s a b ≡ accepted x → x ≤ 17592186040320
+  pub repeated : (m : ℕ) → Order m → repeated_total m (encoding m largest_row) 10000 0 ≡ accepted 175921860403200000
+  pub repeated_most : (m : ℕ) (s : List ℕ) (r shared x : ℕ) → repeated_total m s r shared ≡ accepted x → x ≤ 175921860403200000
   pub fit : 175921860403200000 < 2 ^ 64
 
 -- For all orders, bytes, repeats and shared knots
 pub record TotalsDemand : Type 0 where
   -- R-1: "0 where the old way is kept"
-  pub none-shared : (m : ℕ) (s : List ℕ) (r : ℕ) → repeatedTotal m s r 0 ≡ plainRepeated m s r
+  pub none_shared : (m : ℕ) (s : List ℕ) (r : ℕ) → repeated_total m s r 0 ≡ plain_repeated m s r
   -- what one repeat would share changes nothing, but is checked
-  pub one-repeat : (m : ℕ) (s : List ℕ) (shared : ℕ)
-      → repeatedTotal m s 1 shared ≡ and_then (plainRepeated m s 1) (λ x. check TooMuchShared (ltb x shared) (accepted x))
+  pub one_repeat : (m : ℕ) (s : List ℕ) (shared : ℕ)
+      → repeated_total m s 1 shared ≡ and_then (plain_repeated m s 1) (λ x. check TooMuchShared (ltb x shared) (accepted x))
   -- repeats that share all are one row wide
-  pub all-shared : (m : ℕ) (s row : List ℕ) (r : ℕ) → Order m → decode (fibonacci m) maxNumber s ≡ accepted row → (1 ≤ r) × (r ≤ 10000)
-      → repeatedTotal m s r (sum row) ≡ accepted (sum row)
+  pub all_shared : (m : ℕ) (s row : List ℕ) (r : ℕ) → Order m → decode (fibonacci m) max_number s ≡ accepted row → (1 ≤ r) × (r ≤ 10000)
+      → repeated_total m s r (sum row) ≡ accepted (sum row)
   -- up to the row's total anything may be shared, and "r times the total, less (r - 1) times s" is exact: the width and (r - 1) times s add up to r times the
   -- total, so that nothing is cut off
-  pub accepts : (m : ℕ) (s row : List ℕ) (r shared : ℕ) → Order m → decode (fibonacci m) maxNumber s ≡ accepted row → (1 ≤ r) × (r ≤ 10000) → shared ≤ sum row
-      → (x : ℕ) × (repeatedTotal m s r shared ≡ accepted x)
-  pub exact : (m : ℕ) (s row : List ℕ) (r shared x : ℕ) → decode (fibonacci m) maxNumber s ≡ accepted row → repeatedTotal m s r shared ≡ accepted x
+  pub accepts : (m : ℕ) (s row : List ℕ) (r shared : ℕ) → Order m → decode (fibonacci m) max_number s ≡ accepted row → (1 ≤ r) × (r ≤ 10000) → shared ≤ sum row
+      → (x : ℕ) × (repeated_total m s r shared ≡ accepted x)
+  pub exact : (m : ℕ) (s row : List ℕ) (r shared x : ℕ) → decode (fibonacci m) max_number s ≡ accepted row → repeated_total m s r shared ≡ accepted x
       → x + (r - 1) * shared ≡ r * sum row
   pub largest : LargestTotals

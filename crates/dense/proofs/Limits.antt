@@ -8,14 +8,14 @@ use lib.ListN.{get_or}
 use borrow.Author.Tests.{le-leb}
 use Rattle.lists.specs.Lists.{All}
 use Rattle.calls.proofs.Checks.{within_both}
-use Rattle.dense.specs.Limits.{isStoppers, Stoppers, continuers}
+use Rattle.dense.specs.Limits.{is_stoppers, Stoppers, continuers}
 
-pub stoppers-is : (s : ℕ) → isStoppers s ≡ true → Stoppers s
-unfolding isStoppers
+pub stoppers-is : (s : ℕ) → is_stoppers s ≡ true → Stoppers s
+unfolding is_stoppers
 stoppers-is s e = within_both 1 254 s e
 
-pub is-stoppers : (s : ℕ) → Stoppers s → isStoppers s ≡ true
-unfolding isStoppers
+pub is-stoppers : (s : ℕ) → Stoppers s → is_stoppers s ≡ true
+unfolding is_stoppers
 is-stoppers s h = simp (le-leb 1 s h.0, le-leb s 254 h.1)
 
 -- bytes are below s + c

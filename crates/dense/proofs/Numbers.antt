@@ -200,8 +200,8 @@ first-up s c i k h = rising (first s c) (first_step s c) h
 codeword-length : (s c : ℕ) (w : List ℕ) (x : Codeword s c w) → length w ≡ suc (length x.stem)
 codeword-length s c w x = omega (arith, ap length x.ends, length-append x.stem (x.last ∷ []))
 
-pub shorter-first : (s c : ℕ) (v w : List ℕ) → Codeword s c v → Codeword s c w → length v < length w → number s c v < number s c w
-shorter-first s c v w x y h =
+pub shorter_first : (s c : ℕ) (v w : List ℕ) → Codeword s c v → Codeword s c w → length v < length w → number s c v < number s c w
+shorter_first s c v w x y h =
     let up = first-up s c (suc (length x.stem)) (length y.stem) (omega (arith, codeword-length s c v x, codeword-length s c w y)) in
     omega (arith, up, number-span s c v x, number-span s c w y)
 

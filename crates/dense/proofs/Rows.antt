@@ -50,9 +50,9 @@ module _ (s c : ℕ) (ps : 1 ≤ s) (pc : 1 ≤ c) where
   unfolding encoding
   rows_apart = codes.rows_apart is_code
 
-  pub rows-begin : (a b : List ℕ) → Positive a → Positive b → IsPrefix (encoding s c a) (encoding s c b) ↔ IsPrefix a b
+  pub rows_begin : (a b : List ℕ) → Positive a → Positive b → IsPrefix (encoding s c a) (encoding s c b) ↔ IsPrefix a b
   unfolding encoding
-  rows-begin = codes.rows-begin is_code
+  rows_begin = codes.rows_begin is_code
 
 -- the numbers of codewords are from 1 up
 pub numbers-positive : (s c : ℕ) (b : List ℕ) → Positive (numbers s c b)

@@ -1,14 +1,14 @@
 -- Rows of numbers as bytes of the (s, c)-dense code, and the codewords of a string of bytes.
 use Rattle.std.specs.Prelude.{true, false, List, [], ◌∷◌, map, ℕ, ◌≤◌, ltb}
 use Rattle.lists.specs.Lists.{All}
-use Rattle.codes.specs.Rows.{rowString}
+use Rattle.codes.specs.Rows.{row_string}
 use Rattle.codes.specs.Parse.{Parse, parsed, codewords, push, prepend}
 use Rattle.codes.specs.Parse as codes
 use Rattle.dense.specs.Code.{Codeword, number, codeword}
 
 -- The bytes of a row: its codewords without a gap
 unfoldable pub encoding : ℕ → ℕ → List ℕ → List ℕ
-encoding s c row = rowString (codeword s c) row
+encoding s c row = row_string (codeword s c) row
 
 -- ## The parse of a string of bytes
 

@@ -3,8 +3,8 @@ use Rattle.std.specs.Prelude.{Bool, ℕ, ◌-◌, ◌≤◌}
 use Rattle.calls.specs.Limits.{within}
 
 -- How many byte values are stoppers: s is 1 to 254
-unfoldable pub isStoppers : ℕ → Bool
-isStoppers s = within 1 254 s
+unfoldable pub is_stoppers : ℕ → Bool
+is_stoppers s = within 1 254 s
 
 -- .. the same as a proposition
 abbrev pub Stoppers : ℕ → Type 0
@@ -15,5 +15,5 @@ abbrev pub continuers : ℕ → ℕ
 continuers s = 256 - s
 
 -- How many bytes a dense encoding has at most: 25 for each of 4,096 numbers
-abbrev pub maxDenseBytes : ℕ
-maxDenseBytes = 102400
+abbrev pub max_dense_bytes : ℕ
+max_dense_bytes = 102400

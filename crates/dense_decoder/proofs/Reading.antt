@@ -10,16 +10,16 @@ use Rattle.codes.specs.Parse.{rest}
 use Rattle.calls.specs.declared.Refusal.TheVariants.{BadStoppers}
 use Rattle.calls.specs.declared.CountAnswer.{CountAnswer}
 use Rattle.calls.specs.Calls.{accepted, refused}
-use Rattle.calls.specs.Limits.{maxNumber}
+use Rattle.calls.specs.Limits.{max_number}
 use Rattle.calls.specs.Reading.{decode}
 use Rattle.calls.specs.Leaves.{Scanned, Delivers}
 use Rattle.calls.proofs.Decoding.{Decoded, called_is, called-refused, called-row, called-delivered}
 use Rattle.calls.proofs.Decoding as calls
 use Rattle.dense.specs.Encoding.{parse}
-use Rattle.dense.specs.Limits.{isStoppers, Stoppers, continuers}
+use Rattle.dense.specs.Limits.{is_stoppers, Stoppers, continuers}
 use Rattle.dense.proofs.Limits.{stoppers-is, is-stoppers}
 use Rattle.dense.proofs.Rows.{numbers-positive}
-use Rattle.dense_decoder.specs.Reading.{dense, readDense, readDenseInto, ReadPromise}
+use Rattle.dense_decoder.specs.Reading.{dense, read_dense, read_dense_into, ReadPromise}
 
 module _ (s limit : ℕ) (b row : List ℕ) where
   pub decode_is : decode (dense s) limit b ≡ accepted row → Decoded (dense s) limit b row
@@ -35,23 +35,23 @@ module _ (s limit : ℕ) (b row : List ℕ) where
 
 -- ## The answers
 
-pub read_is : (s : ℕ) (b : List ℕ) (room n : ℕ) → readDense s b room ≡ accepted n
-    → Stoppers s × ((row : List ℕ) × (decode (dense s) maxNumber b ≡ accepted row) × (n ≡ length row) × (length row ≤ room))
-unfolding readDense
-read_is s b room n e = let x = called_is BadStoppers (isStoppers s) (dense s) maxNumber b room n e in (stoppers-is s x.0, x.1)
+pub read_is : (s : ℕ) (b : List ℕ) (room n : ℕ) → read_dense s b room ≡ accepted n
+    → Stoppers s × ((row : List ℕ) × (decode (dense s) max_number b ≡ accepted row) × (n ≡ length row) × (length row ≤ room))
+unfolding read_dense
+read_is s b room n e = let x = called_is BadStoppers (is_stoppers s) (dense s) max_number b room n e in (stoppers-is s x.0, x.1)
 
 module _ (s : ℕ) (b before : List ℕ) where
-  pub read-row : Stoppers s → (row : List ℕ) → decode (dense s) maxNumber b ≡ accepted row → length row ≤ length before
-      → (readDense s b (length before) ≡ accepted (length row)) × (readDenseInto s b before ≡ row ++ drop (length row) before)
-  unfolding readDense readDenseInto
-  read-row o = called-row BadStoppers (isStoppers s) (dense s) maxNumber b before (is-stoppers s o) (numbers-positive s (continuers s) b)
+  pub read-row : Stoppers s → (row : List ℕ) → decode (dense s) max_number b ≡ accepted row → length row ≤ length before
+      → (read_dense s b (length before) ≡ accepted (length row)) × (read_dense_into s b before ≡ row ++ drop (length row) before)
+  unfolding read_dense read_dense_into
+  read-row o = called-row BadStoppers (is_stoppers s) (dense s) max_number b before (is-stoppers s o) (numbers-positive s (continuers s) b)
 
-  pub read-stoppers : isStoppers s ≡ false → (refused BadStoppers ≡ readDense s b (length before)) × (before ≡ readDenseInto s b before)
-  unfolding readDense readDenseInto
-  read-stoppers = called-refused BadStoppers (isStoppers s) (dense s) maxNumber b before
+  pub read-stoppers : is_stoppers s ≡ false → (refused BadStoppers ≡ read_dense s b (length before)) × (before ≡ read_dense_into s b before)
+  unfolding read_dense read_dense_into
+  read-stoppers = called-refused BadStoppers (is_stoppers s) (dense s) max_number b before
 
-  pub delivered-read : (list after : List ℕ) (scanned a : CountAnswer) → isStoppers s ≡ true
-      → Scanned (decode (dense s) maxNumber b) scanned list → Delivers scanned list before a after → ReadPromise s b before a after
-  unfolding readDense readDenseInto
+  pub delivered-read : (list after : List ℕ) (scanned a : CountAnswer) → is_stoppers s ≡ true
+      → Scanned (decode (dense s) max_number b) scanned list → Delivers scanned list before a after → ReadPromise s b before a after
+  unfolding read_dense read_dense_into
   delivered-read list after scanned a o =
-      called-delivered BadStoppers (isStoppers s) (dense s) maxNumber b before o (numbers-positive s (continuers s) b) list after scanned a
+      called-delivered BadStoppers (is_stoppers s) (dense s) max_number b before o (numbers-positive s (continuers s) b) list after scanned a

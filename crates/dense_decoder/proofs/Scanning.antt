@@ -14,7 +14,7 @@ use Rattle.codes.specs.Rows.{Positive}
 use Rattle.codes.specs.Parse.{Parse, codewords, rest}
 use Rattle.calls.specs.declared.Refusal.TheVariants.{TooManyCodewords, TooLarge, Unfinished}
 use Rattle.calls.specs.Calls.{accepted, refused, check}
-use Rattle.calls.specs.Limits.{is_number, Legal, maxCount}
+use Rattle.calls.specs.Limits.{is_number, Legal, max_count}
 use Rattle.calls.specs.Reading.{contents}
 use Rattle.calls.proofs.Checks.{is-number}
 use Rattle.calls.proofs.Decoding.{contents-many, contents-large, contents-end}
@@ -33,14 +33,14 @@ pub record Stored (s limit : ℕ) (b row : List ℕ) (i count : ℕ) : Type 0 wh
   pub come : numbers s (continuers s) b ≡ take count row ++ numbers s (continuers s) (drop i b)
   pub left : rest (parse s b) ≡ rest (parse s (drop i b))
   pub legal : Legal limit (take count row)
-  pub many : count ≤ maxCount
+  pub many : count ≤ max_count
   pub few : count ≤ i
   pub within : i ≤ length b
 
 pub stored-none : (s limit : ℕ) (b row : List ℕ) → Stored s limit b row 0 0
 stored-none s limit b row = record { come = refl; left = refl; legal = tt; many = omega arith; few = omega arith; within = omega arith }
 
-module _ (s limit : ℕ) (b row : List ℕ) (i count : ℕ) (room : min maxCount (length b) ≤ length row) (w : Stored s limit b row i count) where
+module _ (s limit : ℕ) (b row : List ℕ) (i count : ℕ) (room : min max_count (length b) ≤ length row) (w : Stored s limit b row i count) where
   abbrev c : ℕ
   c = continuers s
 
@@ -52,7 +52,7 @@ module _ (s limit : ℕ) (b row : List ℕ) (i count : ℕ) (room : min maxCount
 
   -- ## A codeword more
 
-  module _ (less : count < maxCount) (h : i < length b) where
+  module _ (less : count < max_count) (h : i < length b) where
     pub stored-room : count < length row
     stored-room = omega (arith, w.few)
 
@@ -77,12 +77,12 @@ module _ (s limit : ℕ) (b row : List ℕ) (i count : ℕ) (room : min maxCount
 
   -- ## Refusals
 
-  pub stored-large : count < maxCount → Front s limit b (drop i b) Large → contents (dense s) limit b ≡ refused (TooLarge count)
+  pub stored-large : count < max_count → Front s limit b (drop i b) Large → contents (dense s) limit b ≡ refused (TooLarge count)
   stored-large less (n, ns, e, l) =
       contents-large (dense s) limit b done w.legal n ns (w.come ∙ ap (λ (l : List ℕ). done ++ l) e) (omega (arith, held)) l
       ∙ ap (λ (k : ℕ). refused (TooLarge k)) held
 
-  pub stored-many : count ≡ maxCount → Finished s b i → contents (dense s) limit b ≡ refused TooManyCodewords
+  pub stored-many : count ≡ max_count → Finished s b i → contents (dense s) limit b ≡ refused TooManyCodewords
   stored-many full f =
       let (u, z, t, e, go, stop) = finished-first s b i f in
       contents-many (dense s) limit b done w.legal _ _ (w.come ∙ ap (λ (l : List ℕ). done ++ l) (ap (numbers s c) e ∙ (front-is s u go z t stop).0)) (held ∙ full)

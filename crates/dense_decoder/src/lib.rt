@@ -1,6 +1,6 @@
 // Reading bytes of the (s, c)-dense code, s from 1 to 254 and c the rest.
 ghost use Rattle.std.specs.Prelude.{◌≤◌, ◌<◌, min, length, drop};
-ghost use Rattle.calls.specs.Limits.{maxNumber, maxCount};
+ghost use Rattle.calls.specs.Limits.{max_number, max_count};
 ghost use Rattle.calls.specs.Reading.{decode};
 ghost use Rattle.calls.specs.Leaves.{Scanned};
 ghost use Rattle.dense.specs.Limits.{Stoppers};
@@ -46,7 +46,7 @@ fn numbered(before: u64, after: usize, limit: u64) -> Step
 // above the highest stopper. Every number is above its string, and so too large where that is at the limit. Requires: s from 1 to 254, a stopper from that
 // place on, and a limit and a string of 32 bits, which `next` requires or shows.
 fn finish(b: &[u8], from: usize, stoppers: u64, limit: u64, y: u64) -> Step
-    requires { Stoppers stoppers × Finished stoppers b.now from × (limit ≤ maxNumber) × (y ≤ maxNumber) }
+    requires { Stoppers stoppers × Finished stoppers b.now from × (limit ≤ max_number) × (y ≤ max_number) }
     ensures { FrontAfter stoppers limit b.now from y result }
 {
     let continuers = 256 - stoppers;
@@ -70,7 +70,7 @@ fn finish(b: &[u8], from: usize, stoppers: u64, limit: u64, y: u64) -> Step
 // What stands from a place on. Codewords of one byte and of two are at hand at once. Requires: s from 1 to 254, a stopper from that place on, and a limit of
 // at most 4,294,967,295, which `store_row` requires or shows.
 fn next(b: &[u8], i: usize, stoppers: u64, limit: u64) -> Step
-    requires { Stoppers stoppers × Finished stoppers b.now i × (limit ≤ maxNumber) }
+    requires { Stoppers stoppers × Finished stoppers b.now i × (limit ≤ max_number) }
     ensures { Front stoppers limit b.now (drop i b.now) result }
 {
     let first = wide(b[i]);
@@ -94,7 +94,7 @@ fn next(b: &[u8], i: usize, stoppers: u64, limit: u64) -> Step
 // Stores the row of an encoding in a list. Requires: s from 1 to 254, a limit of at most 4,294,967,295, and room for every row that so many bytes can hold,
 // as a codeword has at least one, which `read` checks or shows.
 fn store_row(stoppers: u64, b: &[u8], limit: u64, row: &mut [u32]) -> CountAnswer
-    requires { Stoppers stoppers × (limit ≤ maxNumber) × (min maxCount (length b.now) ≤ length row.old) }
+    requires { Stoppers stoppers × (limit ≤ max_number) × (min max_count (length b.now) ≤ length row.old) }
     ensures { Scanned (decode (dense stoppers) limit b.now) result row.new }
 {
     if b.len() > dense::MAX_BYTES {

@@ -12,20 +12,20 @@ use borrow.Author.Tests.{le-leb, lt-leb}
 use Rattle.lists.specs.Lists.{All, filter}
 use Rattle.lists.proofs.Each.{all_map}
 use Rattle.lists.proofs.Filter.{filter-pass, filter-fail, filter_none, pass-next, fail-next}
-use Rattle.calls.specs.Limits.{Legal, maxNumber}
+use Rattle.calls.specs.Limits.{Legal, max_number}
 use Rattle.calls.proofs.Checks.{number_is, positive}
 use Rattle.dense.specs.Code.{first, codeword}
 use Rattle.dense.specs.Encoding.{encoding}
 use Rattle.dense.proofs.Numbers.{first-up, stem-grows, codeword-good, number-length}
-use Rattle.dense_encoder.specs.Leaves.{countFrom}
+use Rattle.dense_encoder.specs.Leaves.{count_from}
 
 -- ## How many numbers are at least so large, number by number
 
-pub count-pass : (low : ℕ) (row : List ℕ) (i : ℕ) → i < length row → low ≤ get_or row i 0 → countFrom low (take (i + 1) row) ≡ countFrom low (take i row) + 1
+pub count-pass : (low : ℕ) (row : List ℕ) (i : ℕ) → i < length row → low ≤ get_or row i 0 → count_from low (take (i + 1) row) ≡ count_from low (take i row) + 1
 count-pass low row i h g =
     ap length (pass-next row i 0 h (leb low) (le-leb low (get_or row i 0) g)) ∙ length-append (filter (leb low) (take i row)) (get_or row i 0 ∷ [])
 
-pub count-fail : (low : ℕ) (row : List ℕ) (i : ℕ) → i < length row → get_or row i 0 < low → countFrom low (take (i + 1) row) ≡ countFrom low (take i row)
+pub count-fail : (low : ℕ) (row : List ℕ) (i : ℕ) → i < length row → get_or row i 0 < low → count_from low (take (i + 1) row) ≡ count_from low (take i row)
 count-fail low row i h g = ap length (fail-next row i 0 h (leb low) (lt-leb low (get_or row i 0) g))
 
 -- ## The length of a codeword
@@ -81,7 +81,7 @@ module _ (s c : ℕ) (ps : 1 ≤ s) (pc : 1 ≤ c) (k : ℕ) where
   abbrev low : ℕ
   low = first s c k
 
-  capped-more : (row : List ℕ) → All (λ n. 1 ≤ n) row → capped s c (suc k) row ≡ capped s c k row + countFrom low row
+  capped-more : (row : List ℕ) → All (λ n. 1 ≤ n) row → capped s c (suc k) row ≡ capped s c k row + count_from low row
   unfolding capped filter
   capped-more [] a = refl
   capped-more (n ∷ row) a =
@@ -103,21 +103,21 @@ module _ (s c : ℕ) (ps : 1 ≤ s) (pc : 1 ≤ c) (k : ℕ) where
       ]
 
   -- none is longer
-  capped-all : (row : List ℕ) → All (λ n. 1 ≤ n) row → countFrom low row ≡ 0 → capped s c k row ≡ length (encoding s c row)
+  capped-all : (row : List ℕ) → All (λ n. 1 ≤ n) row → count_from low row ≡ 0 → capped s c k row ≡ length (encoding s c row)
   unfolding capped encoding flatten
   capped-all [] a e = refl
   capped-all (n ∷ row) a e =
       elim (dec_le low n) [
         | yes g ↦ absurd (omega (arith, ap length (filter-pass (leb low) n row (le-leb low n g))))
         | no g ↦
-            let f : countFrom low row ≡ 0 = omega (arith, ap length (filter-fail (leb low) n row (lt-leb low n (omega arith)))) in
+            let f : count_from low row ≡ 0 = omega (arith, ap length (filter-fail (leb low) n row (lt-leb low n (omega arith)))) in
             omega (arith, capped-all row a.1 f, below s c ps pc n k a.0 (omega arith), length-append (codeword s c n) (encoding s c row))
       ]
 
-  capped-end : (row : List ℕ) → Legal maxNumber row → maxNumber < low → capped s c k row ≡ length (encoding s c row)
+  capped-end : (row : List ℕ) → Legal max_number row → max_number < low → capped s c k row ≡ length (encoding s c row)
   capped-end row a h =
-      let none = all_map _ (λ n. leb low n ≡ false) (λ n q. lt-leb low n (omega (arith, number_is maxNumber n q))) row a in
-      capped-all row (positive maxNumber row a) (ap length (filter_none (leb low) row none))
+      let none = all_map _ (λ n. leb low n ≡ false) (λ n q. lt-leb low n (omega (arith, number_is max_number n q))) row a in
+      capped-all row (positive max_number row a) (ap length (filter_none (leb low) row none))
 
 -- ## Measuring a row, length by length
 
@@ -142,18 +142,18 @@ sized-start s c row ps pc h =
       some = one-le-mul ps pc;
     }
 
-module _ {s c : ℕ} {row : List ℕ} {bytes next more : ℕ} (z : Sized s c row bytes next more) (ps : 1 ≤ s) (pc : 1 ≤ c) (legal : Legal maxNumber row) where
-  longer : countFrom next row ≡ countFrom (first s c z.reached) row
-  longer = ap (λ (x : ℕ). countFrom x row) z.span
+module _ {s c : ℕ} {row : List ℕ} {bytes next more : ℕ} (z : Sized s c row bytes next more) (ps : 1 ≤ s) (pc : 1 ≤ c) (legal : Legal max_number row) where
+  longer : count_from next row ≡ count_from (first s c z.reached) row
+  longer = ap (λ (x : ℕ). count_from x row) z.span
 
   -- so many numbers reach one length more
-  one_more : bytes + countFrom next row ≡ capped s c (suc z.reached) row
-  one_more = omega (arith, z.is, longer, capped-more s c ps pc z.reached row (positive maxNumber row legal))
+  one_more : bytes + count_from next row ≡ capped s c (suc z.reached) row
+  one_more = omega (arith, z.is, longer, capped-more s c ps pc z.reached row (positive max_number row legal))
 
-  pub sized-few : bytes + countFrom next row ≤ length (encoding s c row)
+  pub sized-few : bytes + count_from next row ≤ length (encoding s c row)
   sized-few = omega (arith, one_more, capped-few s c (suc z.reached) row)
 
-  pub sized-more : c ≤ 256 → Sized s c row (bytes + countFrom next row) (next + more) (more * c)
+  pub sized-more : c ≤ 256 → Sized s c row (bytes + count_from next row) (next + more) (more * c)
   unfolding first
   sized-more h =
       record {
@@ -166,8 +166,8 @@ module _ {s c : ℕ} {row : List ℕ} {bytes next more : ℕ} (z : Sized s c row
       }
 
   -- none reaches it
-  pub sized-none : countFrom next row ≡ 0 → bytes ≡ length (encoding s c row)
-  sized-none e = z.is ∙ capped-all s c ps pc z.reached row (positive maxNumber row legal) (sym longer ∙ e)
+  pub sized-none : count_from next row ≡ 0 → bytes ≡ length (encoding s c row)
+  sized-none e = z.is ∙ capped-all s c ps pc z.reached row (positive max_number row legal) (sym longer ∙ e)
 
-  pub sized-end : maxNumber < next → bytes ≡ length (encoding s c row)
+  pub sized-end : max_number < next → bytes ≡ length (encoding s c row)
   sized-end h = z.is ∙ capped-end s c ps pc z.reached row legal (omega (arith, z.span))

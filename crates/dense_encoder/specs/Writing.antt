@@ -2,25 +2,25 @@
 use Rattle.std.specs.Prelude.{◌≡◌, not, List, ℕ, ltb, length}
 use Rattle.calls.specs.declared.Refusal.TheVariants.{BadNumber, TooManyNumbers, BadStoppers}
 use Rattle.calls.specs.declared.CountAnswer.{CountAnswer}
-use Rattle.calls.specs.Calls.{Outcome, check, buffer, countOutcome}
-use Rattle.calls.specs.Limits.{maxNumber, maxCount, checkEach}
+use Rattle.calls.specs.Calls.{Outcome, check, buffer, count_outcome}
+use Rattle.calls.specs.Limits.{max_number, max_count, check_each}
 use Rattle.calls.specs.Reading.{counted}
 use Rattle.dense.specs.Encoding.{encoding}
-use Rattle.dense.specs.Limits.{isStoppers, continuers}
+use Rattle.dense.specs.Limits.{is_stoppers, continuers}
 
 -- Write: 16 s is not 1 to 254; 4 more than 4,096 numbers; 3 a number is 0 (or above the largest, which none of 32 bits is); 5 the output is shorter than the
 -- encoding; else its bytes
-unfoldable pub writeDense : ℕ → List ℕ → ℕ → Outcome ℕ
-writeDense s row room =
-    check BadStoppers (not (isStoppers s))
-    (check TooManyNumbers (ltb maxCount (length row))
-    (checkEach BadNumber maxNumber 0 row
+unfoldable pub write_dense : ℕ → List ℕ → ℕ → Outcome ℕ
+write_dense s row room =
+    check BadStoppers (not (is_stoppers s))
+    (check TooManyNumbers (ltb max_count (length row))
+    (check_each BadNumber max_number 0 row
     (counted room (encoding s (continuers s) row))))
 
 -- The output after writing
-unfoldable pub writeDenseInto : ℕ → List ℕ → List ℕ → List ℕ
-writeDenseInto s row before = buffer (writeDense s row (length before)) (encoding s (continuers s) row) before
+unfoldable pub write_dense_into : ℕ → List ℕ → List ℕ → List ℕ
+write_dense_into s row before = buffer (write_dense s row (length before)) (encoding s (continuers s) row) before
 
 -- What is promised of the answer, and of the output before and after
 abbrev pub WritePromise : ℕ → List ℕ → List ℕ → CountAnswer → List ℕ → Type 0
-WritePromise s row before a after = (countOutcome a ≡ writeDense s row (length before)) × (after ≡ writeDenseInto s row before)
+WritePromise s row before a after = (count_outcome a ≡ write_dense s row (length before)) × (after ≡ write_dense_into s row before)

@@ -1,13 +1,13 @@
 // Writing a row in the (s, c)-dense code of bytes, s from 1 to 254 and c the rest.
 ghost use Rattle.std.specs.Prelude.{◌≡◌, ◌++◌, ◌/◌, ◌%◌, ◌≤◌, length, drop};
 ghost use Rattle.calls.specs.declared.Refusal.TheVariants.{BadNumber};
-ghost use Rattle.calls.specs.Calls.{accepted, countOutcome};
-ghost use Rattle.calls.specs.Limits.{maxCount, checkEach};
+ghost use Rattle.calls.specs.Calls.{accepted, count_outcome};
+ghost use Rattle.calls.specs.Limits.{max_count, check_each};
 ghost use Rattle.dense.specs.Code.{codeword};
 ghost use Rattle.dense.specs.Encoding.{encoding};
 ghost use Rattle.dense.specs.Limits.{Stoppers, continuers};
-ghost use Rattle.dense_encoder.specs.Writing.{writeDense, WritePromise};
-ghost use Rattle.dense_encoder.specs.Leaves.{countFrom, Checked, PutBefore, Fits};
+ghost use Rattle.dense_encoder.specs.Writing.{write_dense, WritePromise};
+ghost use Rattle.dense_encoder.specs.Leaves.{count_from, Checked, PutBefore, Fits};
 
 use calls::{CountAnswer, Refusal};
 
@@ -21,7 +21,7 @@ struct Divided {
 
 // The check of each number of a row; the count is the row's.
 fn check_each(row: &[u32], limit: u64) -> CountAnswer
-    ensures { countOutcome result ≡ checkEach BadNumber limit 0 row.now (accepted (length row.now)) }
+    ensures { count_outcome result ≡ check_each BadNumber limit 0 row.now (accepted (length row.now)) }
 {
     for i in 0..row.len() {
         if !calls::is_number(calls::wide(row[i]), limit) {
@@ -34,8 +34,8 @@ fn check_each(row: &[u32], limit: u64) -> CountAnswer
 // How many numbers of a row are at least so large. Compiled, it goes without a branch, several numbers at once. Requires: a row that is not too long, which
 // `plan` checks: the count has 32 bits.
 fn count_from(row: &[u32], low: u32) -> u32
-    requires { length row.now ≤ maxCount }
-    ensures { result ≡ countFrom low row.now }
+    requires { length row.now ≤ max_count }
+    ensures { result ≡ count_from low row.now }
 {
     let mut count: u32 = 0;
     for i in 0..row.len() {
@@ -72,7 +72,7 @@ fn size(stoppers: u64, row: &[u32]) -> usize
 // `write` checks.
 fn plan(stoppers: u64, row: &[u32], room: usize) -> CountAnswer
     requires { Stoppers stoppers }
-    ensures { countOutcome result ≡ writeDense stoppers row.now room }
+    ensures { count_outcome result ≡ write_dense stoppers row.now room }
 {
     if row.len() > calls::MAX_COUNT {
         return CountAnswer::Refused(Refusal::TooManyNumbers);

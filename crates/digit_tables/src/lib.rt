@@ -1,7 +1,7 @@
 // What a byte is worth as eight digits in order 2 to 6, at each of six places: a constant table for each order.
 ghost use Rattle.std.specs.Prelude.{◌≡◌};
 ghost use Rattle.calls.specs.Limits.{Order};
-ghost use Rattle.digit_tables.specs.Leaves.{byteValues};
+ghost use Rattle.digit_tables.specs.Leaves.{byte_values};
 
 mod tables;
 
@@ -12,7 +12,7 @@ use tables::{VALUES_2, VALUES_3, VALUES_4, VALUES_5, VALUES_6};
 // for each entry.) Requires: an order in use, which every operation checks.
 pub fn fill(t: &mut [u32; 1536], order: usize)
     requires { Order order }
-    ensures { t.new ≡ byteValues order }
+    ensures { t.new ≡ byte_values order }
 {
     if order == 2 {
         *t = VALUES_2;

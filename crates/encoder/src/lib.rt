@@ -2,9 +2,9 @@
 ghost use Rattle.std.specs.Prelude.{◌≡◌, ◌≤◌, length};
 ghost use Rattle.calls.specs.declared.Refusal.TheVariants.{BadNumber};
 ghost use Rattle.calls.specs.Calls.{accepted};
-ghost use Rattle.calls.specs.Limits.{maxNumber, maxCount, checkEach};
+ghost use Rattle.calls.specs.Limits.{max_number, max_count, check_each};
 ghost use Rattle.fibonacci.specs.Leaves.{Firsts};
-ghost use Rattle.headers.specs.Headers.{headerOf, headerOutcome, encodingOutcome};
+ghost use Rattle.headers.specs.Headers.{header_of, header_outcome, encoding_outcome};
 ghost use Rattle.encoder.specs.Writing.{write, WritePromise};
 
 use calls::Refusal;
@@ -13,8 +13,8 @@ use headers::{EncodingAnswer, Header, HeaderAnswer};
 // The header of a row, if no number is 0 or above the limit. Requires: the order's first numbers, a row that is not too long, which `plan` checks, and a limit
 // that a number can have.
 fn measure(firsts: &[u32; 47], order: usize, row: &[u32], limit: u64) -> HeaderAnswer
-    requires { Firsts order firsts.now × (length row.now ≤ maxCount) × (limit ≤ maxNumber) }
-    ensures { headerOutcome result ≡ checkEach BadNumber limit 0 row.now (accepted (headerOf order row.now)) }
+    requires { Firsts order firsts.now × (length row.now ≤ max_count) × (limit ≤ max_number) }
+    ensures { header_outcome result ≡ check_each BadNumber limit 0 row.now (accepted (header_of order row.now)) }
 {
     let mut bits: usize = 0;
     let mut total: u64 = 0;
@@ -37,7 +37,7 @@ fn measure(firsts: &[u32; 47], order: usize, row: &[u32], limit: u64) -> HeaderA
 // which `write` checks the order.
 fn plan(firsts: &[u32; 47], order: usize, row: &[u32], room: usize) -> EncodingAnswer
     requires { Firsts order firsts.now }
-    ensures { encodingOutcome result ≡ write order row.now room }
+    ensures { encoding_outcome result ≡ write order row.now room }
 {
     if row.len() > calls::MAX_COUNT {
         return EncodingAnswer::Refused(Refusal::TooManyNumbers);

@@ -4,24 +4,24 @@ use mathlib.Core.Bool.{Bool, true, false}
 use mathlib.Core.List.{List, [], ◌∷◌}
 use Prim.Native.Nat.{ℕ}
 use lib.ListN.{length}
-use Rattle.lists.specs.Lists.{valuesFrom}
-use Rattle.bits.specs.Bits.{bit_of, wordBits}
+use Rattle.lists.specs.Lists.{values_from}
+use Rattle.bits.specs.Bits.{bit_of, word_bits}
 use Rattle.codes.specs.Parse.{parsed}
 use Rattle.fibonacci.specs.Code.{past, F, first, digits, size, codeword}
-use Rattle.fibonacci.specs.Encoding.{parse, parseAfter}
-use Rattle.calls.specs.Limits.{maxNumber}
+use Rattle.fibonacci.specs.Encoding.{parse, parse_after}
+use Rattle.calls.specs.Limits.{max_number}
 
 -- Bits as a binary numeral with a one put before them, so that zeros at the start count: 0b1_011 is 011
 word : ℕ → List Bool
-word x = afterMark (wordBits 16 x)
+word x = after_mark (word_bits 16 x)
   where
-    afterMark : List Bool → List Bool
-    afterMark [] = []
-    afterMark (false ∷ b) = afterMark b
-    afterMark (true ∷ b) = b
+    after_mark : List Bool → List Bool
+    after_mark [] = []
+    after_mark (false ∷ b) = after_mark b
+    after_mark (true ∷ b) = b
 
 -- 001, table 1: F(1) to F(13) of the orders 2 to 6
-table-1 : valuesFrom (λ m. valuesFrom (F m) 1 13) 2 5 ≡
+table-1 : values_from (λ m. values_from (F m) 1 13) 2 5 ≡
     (1 ∷ 2 ∷ 3 ∷ 5 ∷ 8 ∷ 13 ∷ 21 ∷ 34 ∷ 55 ∷ 89 ∷ 144 ∷ 233 ∷ 377 ∷ []) ∷
     (1 ∷ 2 ∷ 4 ∷ 7 ∷ 13 ∷ 24 ∷ 44 ∷ 81 ∷ 149 ∷ 274 ∷ 504 ∷ 927 ∷ 1705 ∷ []) ∷
     (1 ∷ 2 ∷ 4 ∷ 8 ∷ 15 ∷ 29 ∷ 56 ∷ 108 ∷ 208 ∷ 401 ∷ 773 ∷ 1490 ∷ 2872 ∷ []) ∷
@@ -34,7 +34,7 @@ table-1 = refl
 line : ℕ → ℕ → ℕ → List (List Bool)
 line a b c = word a ∷ word b ∷ word c ∷ []
 
-table-2 : valuesFrom (λ n. codeword 2 n ∷ codeword 3 n ∷ codeword 4 n ∷ []) 1 35 ≡
+table-2 : values_from (λ n. codeword 2 n ∷ codeword 3 n ∷ codeword 4 n ∷ []) 1 35 ≡
     line 0b1_11 0b1_111 0b1_1111 ∷
     line 0b1_011 0b1_0111 0b1_01111 ∷
     line 0b1_0011 0b1_00111 0b1_001111 ∷
@@ -70,17 +70,17 @@ table-2 : valuesFrom (λ n. codeword 2 n ∷ codeword 3 n ∷ codeword 4 n ∷ [
     line 0b1_10101011 0b1_001000111 0b1_1000001111 ∷
     line 0b1_000000011 0b1_101000111 0b1_0100001111 ∷
     line 0b1_100000011 0b1_011000111 0b1_1100001111 ∷ []
-unfolding line word wordBits bit_of codeword size digits first F past
+unfolding line word word_bits bit_of codeword size digits first F past
 table-2 = refl
 
 -- Paper 01: the longest codeword of a legal number has 47 bits
-maxCount : valuesFrom (λ m. length (codeword m maxNumber)) 2 5 ≡ 47 ∷ 39 ∷ 38 ∷ 38 ∷ 39 ∷ []
+max_count : values_from (λ m. length (codeword m max_number)) 2 5 ≡ 47 ∷ 39 ∷ 38 ∷ 38 ∷ 39 ∷ []
 unfolding codeword size digits first F past
-maxCount = refl
+max_count = refl
 
 -- Paper 01, "Ways a strip has been misread": 111 in order 2 is number 1 and a remaining 1
 three-ones : parse 2 (word 0b1_111) ≡ parsed (word 0b1_11 ∷ []) (word 0b1_1)
-unfolding word wordBits bit_of parse parseAfter
+unfolding word word_bits bit_of parse parse_after
 three-ones = refl
 
 -- Paper 01: the sum decides over 001's 19,511 as the largest value of sixteen digits of order 3

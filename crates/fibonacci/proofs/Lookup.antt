@@ -10,81 +10,81 @@ use lib.Dec.{leb, eqb}
 use lib.ListN.{length, get_or, take, replicate, get_or-replicate, length-replicate}
 use lib.Seq.{ext_get_or}
 use borrow.Author.Tests.{le-leb, lt-leb, leb-true, leb-false, eqb-true}
-use Rattle.lists.specs.Lists.{sum, valuesFrom}
+use Rattle.lists.specs.Lists.{sum, values_from}
 use Rattle.lists.proofs.Lists.{values-at}
 use Rattle.lists.proofs.Sums.{sum-none}
 use Rattle.fibonacci.specs.Code.{past, F, ones, first, size, codeword}
-use Rattle.calls.specs.Limits.{maxNumber, Order}
+use Rattle.calls.specs.Limits.{max_number, Order}
 use Rattle.calls.proofs.Checks.{both}
-use Rattle.fibonacci.specs.Leaves.{recursAfter, recurs, numberOrZero, tableRow}
+use Rattle.fibonacci.specs.Leaves.{recurs_after, recurs, number_or_zero, table_row}
 use Rattle.fibonacci.proofs.Numeration.{F-rises, digits-length}
-use Rattle.fibonacci.proofs.Numbers.{first-order-2, first-rises, codeword-size}
+use Rattle.fibonacci.proofs.Numbers.{first_order_2, first-rises, codeword-size}
 
 -- a table of tables: a row for each order from 3 to 6
 unfoldable pub table_of : (ℕ → ℕ → ℕ) → List (List ℕ)
-unfolding tableRow
-table_of f = valuesFrom (λ m. tableRow (f m)) 3 4
+unfolding table_row
+table_of f = values_from (λ m. table_row (f m)) 3 4
 
 -- the row of an order in it
-pub row_at : (f : ℕ → ℕ → ℕ) (m : ℕ) (z : List ℕ) → 3 ≤ m → m ≤ 6 → get_or (table_of f) (m - 3) z ≡ tableRow (f m)
+pub row_at : (f : ℕ → ℕ → ℕ) (m : ℕ) (z : List ℕ) → 3 ≤ m → m ≤ 6 → get_or (table_of f) (m - 3) z ≡ table_row (f m)
 unfolding table_of
 row_at f m z h l =
     let e : 3 + (m - 3) ≡ m = omega arith in
-    values-at (λ m. tableRow (f m)) 3 4 (m - 3) z (omega arith) ∙ ap (λ (m : ℕ). tableRow (f m)) e
+    values-at (λ m. table_row (f m)) 3 4 (m - 3) z (omega arith) ∙ ap (λ (m : ℕ). table_row (f m)) e
 
 -- an entry of a row
-pub entry_at : (f : ℕ → ℕ) (j z : ℕ) → j < 47 → get_or (tableRow f) j z ≡ numberOrZero (f j)
-unfolding tableRow
-entry_at f j z h = values-at (λ j. numberOrZero (f j)) 0 47 j z h ∙ ap (λ (i : ℕ). numberOrZero (f i)) (zero-add j)
+pub entry_at : (f : ℕ → ℕ) (j z : ℕ) → j < 47 → get_or (table_row f) j z ≡ number_or_zero (f j)
+unfolding table_row
+entry_at f j z h = values-at (λ j. number_or_zero (f j)) 0 47 j z h ∙ ap (λ (i : ℕ). number_or_zero (f i)) (zero-add j)
 
 -- ## Past the row
 
 -- what one computation over the orders shows
-pub each-order : (t : ℕ → Bool) (v : Bool) → valuesFrom t 2 5 ≡ replicate 5 v → (m : ℕ) → Order m → t m ≡ v
+pub each-order : (t : ℕ → Bool) (v : Bool) → values_from t 2 5 ≡ replicate 5 v → (m : ℕ) → Order m → t m ≡ v
 each-order t v e m h =
     let k : 2 + (m - 2) ≡ m = omega arith in
     ap t (sym k) ∙ sym (values-at t 2 5 (m - 2) v (omega arith)) ∙ ap (λ (l : List Bool). get_or l (m - 2) v) e
     ∙ get_or-replicate 5 (m - 2) v v (omega arith)
 
-F-over : (m : ℕ) → Order m → maxNumber < F m 47
+F-over : (m : ℕ) → Order m → max_number < F m 47
 unfolding F past
-F-over m h = leb-false _ _ (each-order (λ m. leb (F m 47) maxNumber) false refl m h)
+F-over m h = leb-false _ _ (each-order (λ m. leb (F m 47) max_number) false refl m h)
 
 -- a codeword of 48 bits
-first-over : (m : ℕ) → Order m → maxNumber < first m (48 - m)
+first-over : (m : ℕ) → Order m → max_number < first m (48 - m)
 unfolding first F past
-first-over m h = leb-false _ _ (each-order (λ m. leb (first m (48 - m)) maxNumber) false refl m h)
+first-over m h = leb-false _ _ (each-order (λ m. leb (first m (48 - m)) max_number) false refl m h)
 
 -- the first numbers of few bits are small
-pub first-few : (m d : ℕ) → Order m → d ≤ 9 → first m d ≤ maxNumber
+pub first-few : (m d : ℕ) → Order m → d ≤ 9 → first m d ≤ max_number
 unfolding first F past
-first-few m d h l = omega (arith, leb-true (first m 9) maxNumber (each-order (λ m. leb (first m 9) maxNumber) true refl m h), first-rises m l)
+first-few m d h l = omega (arith, leb-true (first m 9) max_number (each-order (λ m. leb (first m 9) max_number) true refl m h), first-rises m l)
 
 -- ## What a look-up gives
 
-pub number-kept : (x : ℕ) → x ≤ maxNumber → numberOrZero x ≡ x
-unfolding numberOrZero
-number-kept x h = rw (le-leb x maxNumber h, numberOrZero)
+pub number-kept : (x : ℕ) → x ≤ max_number → number_or_zero x ≡ x
+unfolding number_or_zero
+number-kept x h = rw (le-leb x max_number h, number_or_zero)
 
-pub number-zero : (x : ℕ) → maxNumber < x → numberOrZero x ≡ 0
-unfolding numberOrZero
-number-zero x h = rw (lt-leb x maxNumber h, numberOrZero)
+pub number-zero : (x : ℕ) → max_number < x → number_or_zero x ≡ 0
+unfolding number_or_zero
+number-zero x h = rw (lt-leb x max_number h, number_or_zero)
 
 -- so a look-up tells whether there is such a value
-pub number-none : (x : ℕ) → 1 ≤ x → numberOrZero x ≡ 0 → maxNumber < x
-number-none x p e = elim (dec_le x maxNumber) [ yes h ↦ absurd (omega (arith, number-kept x h)) | no h ↦ omega arith ]
+pub number-none : (x : ℕ) → 1 ≤ x → number_or_zero x ≡ 0 → max_number < x
+number-none x p e = elim (dec_le x max_number) [ yes h ↦ absurd (omega (arith, number-kept x h)) | no h ↦ omega arith ]
 
-pub number-some : (x : ℕ) → (numberOrZero x ≡ 0 → ⊥) → x ≤ maxNumber
-number-some x e = elim (dec_le x maxNumber) [ yes h ↦ h | no h ↦ absurd (e (number-zero x (omega arith))) ]
+pub number-some : (x : ℕ) → (number_or_zero x ≡ 0 → ⊥) → x ≤ max_number
+number-some x e = elim (dec_le x max_number) [ yes h ↦ h | no h ↦ absurd (e (number-zero x (omega arith))) ]
 
 -- ## The recurrence, carried to each entry
 
 -- entries that are left, after F(n), F(n - 1), ..
-after-at : (m n : ℕ) (before es : List ℕ) → 1 ≤ m → before ≡ past m n → recursAfter m before es ≡ true
-    → (i : ℕ) → i < length es → get_or es i 0 ≡ numberOrZero (F m (suc n + i))
-unfolding F past recursAfter
+after-at : (m n : ℕ) (before es : List ℕ) → 1 ≤ m → before ≡ past m n → recurs_after m before es ≡ true
+    → (i : ℕ) → i < length es → get_or es i 0 ≡ number_or_zero (F m (suc n + i))
+unfolding F past recurs_after
 after-at m n before [] p b e i h = absurd (omega arith)
-after-at m n before (x ∷ es) p b e i h = go (leb (sum (take m before)) maxNumber) refl (after-at m (suc n) (x ∷ before) es p)
+after-at m n before (x ∷ es) p b e i h = go (leb (sum (take m before)) max_number) refl (after-at m (suc n) (x ∷ before) es p)
   where
     next : sum (take m before) ≡ F m (suc n)
     next = ap (λ (l : List ℕ). sum (take m l)) b
@@ -92,44 +92,44 @@ after-at m n before (x ∷ es) p b e i h = go (leb (sum (take m before)) maxNumb
     longer : x ≡ F m (suc n) → x ∷ before ≡ past m (suc n)
     longer is = ap₂ (λ (y : ℕ) (l : List ℕ). y ∷ l) is b
 
-    at : (i : ℕ) → i < length (x ∷ es) → x ≡ F m (suc n) → F m (suc n) ≤ maxNumber
-        → ((i : ℕ) → i < length es → get_or es i 0 ≡ numberOrZero (F m (suc (suc n) + i))) → get_or (x ∷ es) i 0 ≡ numberOrZero (F m (suc n + i))
-    at zero h is small ih = is ∙ sym (number-kept _ small) ∙ ap (λ (k : ℕ). numberOrZero (F m k)) (sym (add-zero (suc n)))
-    at (suc i) h is small ih = let k : suc (suc n) + i ≡ suc n + suc i = omega arith in ih i (omega arith) ∙ ap (λ (k : ℕ). numberOrZero (F m k)) k
+    at : (i : ℕ) → i < length (x ∷ es) → x ≡ F m (suc n) → F m (suc n) ≤ max_number
+        → ((i : ℕ) → i < length es → get_or es i 0 ≡ number_or_zero (F m (suc (suc n) + i))) → get_or (x ∷ es) i 0 ≡ number_or_zero (F m (suc n + i))
+    at zero h is small ih = is ∙ sym (number-kept _ small) ∙ ap (λ (k : ℕ). number_or_zero (F m k)) (sym (add-zero (suc n)))
+    at (suc i) h is small ih = let k : suc (suc n) + i ≡ suc n + suc i = omega arith in ih i (omega arith) ∙ ap (λ (k : ℕ). number_or_zero (F m k)) k
 
-    go : (v : Bool) → leb (sum (take m before)) maxNumber ≡ v
-        → (x ∷ before ≡ past m (suc n) → recursAfter m (x ∷ before) es ≡ true → (i : ℕ) → i < length es → get_or es i 0 ≡ numberOrZero (F m (suc (suc n) + i)))
-        → get_or (x ∷ es) i 0 ≡ numberOrZero (F m (suc n + i))
+    go : (v : Bool) → leb (sum (take m before)) max_number ≡ v
+        → (x ∷ before ≡ past m (suc n) → recurs_after m (x ∷ before) es ≡ true → (i : ℕ) → i < length es → get_or es i 0 ≡ number_or_zero (F m (suc (suc n) + i)))
+        → get_or (x ∷ es) i 0 ≡ number_or_zero (F m (suc n + i))
     go true t ih =
-        let r = both (eqb x (sum (take m before))) (recursAfter m (x ∷ before) es) (rw (t, recursAfter) at e) in
+        let r = both (eqb x (sum (take m before))) (recurs_after m (x ∷ before) es) (rw (t, recurs_after) at e) in
         let is : x ≡ F m (suc n) = eqb-true _ _ r.0 ∙ next in
-        at i h is (omega (arith, leb-true (sum (take m before)) maxNumber t, next)) (ih (longer is) r.1)
+        at i h is (omega (arith, leb-true (sum (take m before)) max_number t, next)) (ih (longer is) r.1)
     go false t ih =
-        let none : sum (x ∷ es) ≡ 0 = eqb-true _ _ (rw (t, recursAfter) at e) in
-        sum-none (x ∷ es) none i ∙ sym (number-zero _ (omega (arith, leb-false (sum (take m before)) maxNumber t, next, F-rises m p {j = suc n} {k = suc n + i} (omega arith))))
+        let none : sum (x ∷ es) ≡ 0 = eqb-true _ _ (rw (t, recurs_after) at e) in
+        sum-none (x ∷ es) none i ∙ sym (number-zero _ (omega (arith, leb-false (sum (take m before)) max_number t, next, F-rises m p {j = suc n} {k = suc n + i} (omega arith))))
 
 -- in order 2 what recurs after F(0), 47 entries, are the first numbers
-pub row-order-2 : (row : List ℕ) → length row ≡ 47 → recursAfter 2 (1 ∷ replicate 2 0) row ≡ true → row ≡ tableRow (first 2)
-unfolding past tableRow
-row-order-2 row l e = ext_get_or 0 row (tableRow (first 2)) l at
+pub row-order-2 : (row : List ℕ) → length row ≡ 47 → recurs_after 2 (1 ∷ replicate 2 0) row ≡ true → row ≡ table_row (first 2)
+unfolding past table_row
+row-order-2 row l e = ext_get_or 0 row (table_row (first 2)) l at
   where
-    at : (d : ℕ) → d < length row → get_or row d 0 ≡ get_or (tableRow (first 2)) d 0
+    at : (d : ℕ) → d < length row → get_or row d 0 ≡ get_or (table_row (first 2)) d 0
     at d h =
         let k : 1 + d ≡ suc d = omega arith in
-        after-at 2 0 (1 ∷ replicate 2 0) row (omega arith) refl e d h ∙ ap numberOrZero (ap (F 2) k ∙ sym (first-order-2 d))
+        after-at 2 0 (1 ∷ replicate 2 0) row (omega arith) refl e d h ∙ ap number_or_zero (ap (F 2) k ∙ sym (first_order_2 d))
         ∙ sym (entry_at (first 2) d 0 (omega arith))
 
 -- an entry of a row whose own entries recur is a position value, or 0 where that is above the largest number
-pub recurs-at : (m : ℕ) (row : List ℕ) → 1 ≤ m → recurs m row ≡ true → (j : ℕ) → j < 47 → get_or row j 0 ≡ numberOrZero (F m j)
+pub recurs-at : (m : ℕ) (row : List ℕ) → 1 ≤ m → recurs m row ≡ true → (j : ℕ) → j < 47 → get_or row j 0 ≡ number_or_zero (F m j)
 unfolding recurs F past
 recurs-at m [] p e j h = absurd (false≢true e)
 recurs-at m (x ∷ es) p e j h = at j h
   where
-    tests : (eqb (length (x ∷ es)) 47 ≡ true) × ((eqb x 1 && recursAfter m (x ∷ replicate m 0) es) ≡ true)
-    tests = both (eqb (length (x ∷ es)) 47) (eqb x 1 && recursAfter m (x ∷ replicate m 0) es) e
+    tests : (eqb (length (x ∷ es)) 47 ≡ true) × ((eqb x 1 && recurs_after m (x ∷ replicate m 0) es) ≡ true)
+    tests = both (eqb (length (x ∷ es)) 47) (eqb x 1 && recurs_after m (x ∷ replicate m 0) es) e
 
-    rest : (eqb x 1 ≡ true) × (recursAfter m (x ∷ replicate m 0) es ≡ true)
-    rest = both (eqb x 1) (recursAfter m (x ∷ replicate m 0) es) tests.1
+    rest : (eqb x 1 ≡ true) × (recurs_after m (x ∷ replicate m 0) es ≡ true)
+    rest = both (eqb x 1) (recurs_after m (x ∷ replicate m 0) es) tests.1
 
     one : x ≡ F m 0
     one = eqb-true _ _ rest.0
@@ -137,14 +137,14 @@ recurs-at m (x ∷ es) p e j h = at j h
     start : x ∷ replicate m 0 ≡ past m 0
     start = ap (λ (y : ℕ). y ∷ replicate m 0) (eqb-true _ _ rest.0)
 
-    at : (j : ℕ) → j < 47 → get_or (x ∷ es) j 0 ≡ numberOrZero (F m j)
+    at : (j : ℕ) → j < 47 → get_or (x ∷ es) j 0 ≡ number_or_zero (F m j)
     at zero h = one ∙ sym (number-kept (F m 0) (omega arith))
     at (suc j) h =
         let k : 1 + j ≡ suc j = omega arith in
-        after-at m 0 (x ∷ replicate m 0) es p start rest.1 j (omega (arith, eqb-true (length (x ∷ es)) 47 tests.0)) ∙ ap (λ (k : ℕ). numberOrZero (F m k)) k
+        after-at m 0 (x ∷ replicate m 0) es p start rest.1 j (omega (arith, eqb-true (length (x ∷ es)) 47 tests.0)) ∙ ap (λ (k : ℕ). number_or_zero (F m k)) k
 
 -- one computation over a table of tables shows it for the row of each order
-pub rows-recur : (t : List (List ℕ)) (z : List ℕ) (m : ℕ) → Order m → valuesFrom (λ m. recurs m (get_or t (m - 2) z)) 2 5 ≡ replicate 5 true
+pub rows-recur : (t : List (List ℕ)) (z : List ℕ) (m : ℕ) → Order m → values_from (λ m. recurs m (get_or t (m - 2) z)) 2 5 ≡ replicate 5 true
     → recurs m (get_or t (m - 2) z) ≡ true
 rows-recur t z m h e = each-order (λ m. recurs m (get_or t (m - 2) z)) true e m h
 
@@ -154,18 +154,18 @@ row-recurs k m row e h = rw e at h
 
 module _ (m : ℕ) (h : Order m) where
   -- every position value up to the largest number stands in the row
-  pub position-within : (j : ℕ) → F m j ≤ maxNumber → j < 47
+  pub position-within : (j : ℕ) → F m j ≤ max_number → j < 47
   position-within j b =
       elim (dec_le 47 j) [
         | yes l ↦ absurd (omega (arith, F-over m h, F-rises m (omega arith) l))
         | no l ↦ omega arith
       ]
 
-  pub position_at : (row : List ℕ) → recurs m row ≡ true → (j : ℕ) → F m j ≤ maxNumber → get_or row j 0 ≡ F m j
+  pub position_at : (row : List ℕ) → recurs m row ≡ true → (j : ℕ) → F m j ≤ max_number → get_or row j 0 ≡ F m j
   position_at row e j b = recurs-at m row (omega arith) e j (position-within j b) ∙ number-kept (F m j) b
 
   -- no first number of a codeword of 48 bits is legal
-  pub first-within : (d : ℕ) → first m d ≤ maxNumber → d + m ≤ 47
+  pub first-within : (d : ℕ) → first m d ≤ max_number → d + m ≤ 47
   first-within d b =
       elim (dec_le (48 - m) d) [
         | yes l ↦ absurd (omega (arith, first-over m h, first-rises m l))
@@ -173,7 +173,7 @@ module _ (m : ℕ) (h : Order m) where
       ]
 
   -- past the row every first number is above the largest number
-  pub first_past : (d : ℕ) → 47 ≤ d → numberOrZero (first m d) ≡ 0
+  pub first_past : (d : ℕ) → 47 ≤ d → number_or_zero (first m d) ≡ 0
   first_past d l = number-zero (first m d) (omega (arith, first-over m h, first-rises m {j = 48 - m} {k = d} (omega arith)))
 
 -- how long a codeword is, by the search for its first number
@@ -182,6 +182,6 @@ unfolding codeword
 codeword-bits m n = digits-length m (size m n n 0) _ (ones m) ∙ ap (λ (k : ℕ). size m n n 0 + k) (length-replicate m true)
 
 -- the longest codeword of a legal number has 47 bits
-pub codeword-short : (m n : ℕ) → Order m → 1 ≤ n → n ≤ maxNumber → length (codeword m n) ≤ 47
+pub codeword-short : (m n : ℕ) → Order m → 1 ≤ n → n ≤ max_number → length (codeword m n) ≤ 47
 codeword-short m n o h l =
     omega (arith, codeword-bits m n, first-within m o (size m n n 0) (omega (arith, (codeword-size m n (omega arith) h).0)))

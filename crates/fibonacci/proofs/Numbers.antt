@@ -10,15 +10,15 @@ use native.Mathlib.Decide.{dec_le}
 use lib.ListN.{length, length-append, length-replicate}
 use lib.Seq.{take_at}
 use borrow.Author.Tests.{le-leb, lt-leb}
-use Rattle.lists.specs.Lists.{sum, valuesFrom}
+use Rattle.lists.specs.Lists.{sum, values_from}
 use Rattle.codes.proofs.Lengths.{rising, Between, between-one}
 use Rattle.fibonacci.specs.Code.{past, F, value, first, ones, runs, Codeword, Form, number, digits, size, codeword}
 use Rattle.fibonacci.proofs.Runs.{runs-false, runs-more, runs_grow, lead-ones, runs-all, runs-cut}
-use Rattle.fibonacci.proofs.Numeration.{sumDown, F-suc, sumDown-suc, sumDown-zero, sumDown-none, sumDown-head, F-pos, digits-small, digits-good, free-digits, digits_append, digits-length}
+use Rattle.fibonacci.proofs.Numeration.{sum_down, F-suc, sum_down-suc, sum_down-zero, sum_down-none, sum_down-head, F-pos, digits-small, digits-good, free-digits, digits_append, digits-length}
 
 -- ## The first numbers
 
-sum-last : (f : ℕ → ℕ) (j n : ℕ) → sum (valuesFrom f j (suc n)) ≡ sum (valuesFrom f j n) + f (j + n)
+sum-last : (f : ℕ → ℕ) (j n : ℕ) → sum (values_from f j (suc n)) ≡ sum (values_from f j n) + f (j + n)
 sum-last f j zero = rw (add-zero j) (omega arith)
 sum-last f j (suc n) =
     let e : f (suc j + n) ≡ f (j + suc n) = ap f (omega arith) in
@@ -39,10 +39,10 @@ F-order-2 zero = refl
 F-order-2 (suc n) = omega arith
 
 -- and so the first numbers are the position values, one place on: 2 + F(1) + .. + F(s) is F(s + 2) (paper 02, R-3)
-pub first-order-2 : (d : ℕ) → first 2 d ≡ F 2 (suc d)
+pub first_order_2 : (d : ℕ) → first 2 d ≡ F 2 (suc d)
 unfolding first F past
-first-order-2 zero = refl
-first-order-2 (suc d) = omega (arith, first-suc 2 d, first-order-2 d, F-order-2 d)
+first_order_2 zero = refl
+first_order_2 (suc d) = omega (arith, first-suc 2 d, first_order_2 d, F-order-2 d)
 
 first_step : (m d : ℕ) → first m d ≤ first m (suc d)
 first_step m d = omega (arith, first-suc m d)
@@ -55,17 +55,17 @@ unfolding first
 first_pos m d = first-rises m {j = 0} {k = d} (omega arith)
 
 -- any of the position values down from F(n) sum up to less than the next first number
-sumDown-below : (m n i : ℕ) → sumDown m n i < first m (suc n)
+sum_down-below : (m n i : ℕ) → sum_down m n i < first m (suc n)
 unfolding first
-sumDown-below m n zero = omega (arith, sumDown-none m n)
-sumDown-below m zero (suc i) = omega (arith, sumDown-zero m (suc i) (omega arith))
-sumDown-below m (suc n) (suc i) = omega (arith, sumDown-suc m n i, first-suc m (suc n), sumDown-below m n i)
+sum_down-below m n zero = omega (arith, sum_down-none m n)
+sum_down-below m zero (suc i) = omega (arith, sum_down-zero m (suc i) (omega arith))
+sum_down-below m (suc n) (suc i) = omega (arith, sum_down-suc m n i, first-suc m (suc n), sum_down-below m n i)
 
 -- so no position value is above the first number of its place
 pub F-first : (m d : ℕ) → F m d ≤ first m d
 unfolding F past first
 F-first m zero = omega arith
-F-first m (suc s) = omega (arith, F-suc m s, sumDown-below m s m)
+F-first m (suc s) = omega (arith, F-suc m s, sum_down-below m s m)
 
 -- n is among the numbers whose codewords have d bits before their m ones
 abbrev pub Within : ℕ → ℕ → ℕ → Type 0
@@ -114,12 +114,12 @@ number_of m p =
 -- ## The paper's form of a codeword
 
 -- Number 1 is m ones
-pub number-one : (m : ℕ) → number m (ones m) ≡ 1
+pub number_one : (m : ℕ) → number m (ones m) ≡ 1
 unfolding value first
-number-one m = number_of m []
+number_one m = number_of m []
 
 -- Every other number is s digits, a 0 and m ones: 2 + F(1) + .. + F(s), and the value of the digits
-pub number_digits : (m : ℕ) (q : List Bool) → number m (q ++ (false ∷ ones m)) ≡ 2 + sum (valuesFrom (F m) 1 (length q)) + value m 1 q
+pub number_digits : (m : ℕ) (q : List Bool) → number m (q ++ (false ∷ ones m)) ≡ 2 + sum (values_from (F m) 1 (length q)) + value m 1 q
 unfolding value first
 number_digits m q =
     let l : length (q ++ (false ∷ [])) ≡ suc (length q) = omega (arith, length-append q (false ∷ [])) in
@@ -152,7 +152,7 @@ form-codeword m w p (inr f) =
 digits_value : (m d r : ℕ) → 1 ≤ m → r < F m d → value m 1 (digits m d r []) ≡ r
 unfolding value
 digits_value zero d r p h = absurd (omega arith)
-digits_value (suc m) d r p h = (digits-good (suc m) d (suc m) r [] (zero-add _) (omega (arith, sumDown-head (suc m) d m))).1 ∙ add-zero r
+digits_value (suc m) d r p h = (digits-good (suc m) d (suc m) r [] (zero-add _) (omega (arith, sum_down-head (suc m) d m))).1 ∙ add-zero r
 
 digits-once : (m d r : ℕ) → 1 ≤ m → r < F m d → runs m (digits m d r (ones m)) ≡ 1
 unfolding digits
@@ -193,7 +193,7 @@ place m w p (inl e) =
       v = 0;
       long = ap length e ∙ length-replicate m true ∙ sym (zero-add m);
       below = omega arith;
-      means = ap (number m) e ∙ number-one m;
+      means = ap (number m) e ∙ number_one m;
       greedy = sym e;
     }
 place m w p (inr (q, e, free)) =

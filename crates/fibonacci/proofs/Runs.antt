@@ -8,8 +8,8 @@ use native.Mathlib.Nat.{zero-add}
 use native.Mathlib.Decide.{dec_le}
 use lib.Dec.{leb}
 use borrow.Author.Tests.{le-leb, lt-leb}
-use Rattle.bits.specs.Bits.{bitValue}
-use Rattle.fibonacci.specs.Code.{ones, leadingOnes, runs}
+use Rattle.bits.specs.Bits.{bit_value}
+use Rattle.fibonacci.specs.Code.{ones, leading_ones, runs}
 
 -- ## A bit more in front
 
@@ -17,13 +17,13 @@ pub runs-false : (m : ℕ) (t : List Bool) → 1 ≤ m → runs m (false ∷ t) 
 unfolding runs
 runs-false m t h = rw (lt-leb m 0 h) (zero-add _)
 
-pub runs-true : (m : ℕ) (t : List Bool) → suc (leadingOnes t) < m → runs m (true ∷ t) ≡ runs m t
+pub runs-true : (m : ℕ) (t : List Bool) → suc (leading_ones t) < m → runs m (true ∷ t) ≡ runs m t
 unfolding runs
-runs-true m t h = rw (lt-leb m (suc (leadingOnes t)) h) (zero-add _)
+runs-true m t h = rw (lt-leb m (suc (leading_ones t)) h) (zero-add _)
 
-pub runs-more : (m : ℕ) (t : List Bool) → m ≤ suc (leadingOnes t) → runs m (true ∷ t) ≡ suc (runs m t)
+pub runs-more : (m : ℕ) (t : List Bool) → m ≤ suc (leading_ones t) → runs m (true ∷ t) ≡ suc (runs m t)
 unfolding runs
-runs-more m t h = rw (le-leb m (suc (leadingOnes t)) h) (omega arith)
+runs-more m t h = rw (le-leb m (suc (leading_ones t)) h) (omega arith)
 
 pub runs_after : (m : ℕ) (q t : List Bool) → runs m t ≤ runs m (q ++ t)
 unfolding runs
@@ -35,7 +35,7 @@ runs_grow m h t = rw reverse_aux-eq (runs_after m (reverse h) t)
 
 -- ## Ones only
 
-pub lead-ones : (k : ℕ) → leadingOnes (ones k) ≡ k
+pub lead-ones : (k : ℕ) → leading_ones (ones k) ≡ k
 lead-ones zero = refl
 lead-ones (suc k) = ap suc (lead-ones k)
 
@@ -59,7 +59,7 @@ runs-all (suc m) h = runs-more (suc m) (ones m) (omega (arith, lead-ones m)) ∙
 
 -- ## A string cut at a zero, or after ones
 
-lead-cut : (q t : List Bool) → leadingOnes (q ++ (false ∷ t)) ≡ leadingOnes q
+lead-cut : (q t : List Bool) → leading_ones (q ++ (false ∷ t)) ≡ leading_ones q
 lead-cut [] t = refl
 lead-cut (false ∷ q) t = refl
 lead-cut (true ∷ q) t = ap suc (lead-cut q t)
@@ -67,13 +67,13 @@ lead-cut (true ∷ q) t = ap suc (lead-cut q t)
 pub runs-cut : (m : ℕ) (q t : List Bool) → 1 ≤ m → runs m (q ++ (false ∷ t)) ≡ runs m q + runs m t
 unfolding runs
 runs-cut m [] t p = omega (arith, runs-false m t p)
-runs-cut m (a ∷ q) t p = omega (arith, runs-cut m q t p, ap (λ (x : ℕ). bitValue (leb m x)) (lead-cut (a ∷ q) t))
+runs-cut m (a ∷ q) t p = omega (arith, runs-cut m q t p, ap (λ (x : ℕ). bit_value (leb m x)) (lead-cut (a ∷ q) t))
 
 pub ones-on : (k : ℕ) (t : List Bool) → ones k ++ (true ∷ t) ≡ true ∷ (ones k ++ t)
 ones-on zero t = refl
 ones-on (suc k) t = ap (λ (l : List Bool). true ∷ l) (ones-on k t)
 
-lead_after : (k : ℕ) (t : List Bool) → k ≤ leadingOnes (ones k ++ t)
+lead_after : (k : ℕ) (t : List Bool) → k ≤ leading_ones (ones k ++ t)
 lead_after zero t = omega arith
 lead_after (suc k) t = omega (arith, lead_after k t)
 

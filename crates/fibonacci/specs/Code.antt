@@ -1,7 +1,7 @@
 -- The Fibonacci code of order m (paper 01, "The code of order m"; source 001, section 2), for any m.
 use Rattle.std.specs.Prelude.{◌≡◌, Bool, true, false, List, [], ◌∷◌, ◌++◌, ◌⊎◌, ℕ, zero, suc, ◌+◌, ◌-◌, leb, length, take, get_or, replicate}
-use Rattle.lists.specs.Lists.{sum, valuesFrom}
-use Rattle.bits.specs.Bits.{bitValue}
+use Rattle.lists.specs.Lists.{sum, values_from}
+use Rattle.bits.specs.Bits.{bit_value}
 
 -- ## The position values
 
@@ -21,15 +21,15 @@ abbrev pub ones : ℕ → List Bool
 ones k = replicate k true
 
 -- How many ones stand at the start
-abbrev pub leadingOnes : List Bool → ℕ
-leadingOnes [] = 0
-leadingOnes (false ∷ b) = 0
-leadingOnes (true ∷ b) = suc (leadingOnes b)
+abbrev pub leading_ones : List Bool → ℕ
+leading_ones [] = 0
+leading_ones (false ∷ b) = 0
+leading_ones (true ∷ b) = suc (leading_ones b)
 
 -- At how many places m ones in a row begin, overlaps counted
 unfoldable pub runs : ℕ → List Bool → ℕ
 runs m [] = 0
-runs m (a ∷ b) = bitValue (leb m (leadingOnes (a ∷ b))) + runs m b
+runs m (a ∷ b) = bit_value (leb m (leading_ones (a ∷ b))) + runs m b
 
 -- A codeword: m ones in a row occur once only, and that is at its end
 pub record Codeword (m : ℕ) (w : List Bool) : Type 0 where
@@ -53,7 +53,7 @@ value m j (true ∷ b) = F m j + value m (suc j) b
 -- there, and the first of them is 2 + F(1) + .. + F(s)
 unfoldable pub first : ℕ → ℕ → ℕ
 first m zero = 1
-first m (suc s) = 2 + sum (valuesFrom (F m) 1 s)
+first m (suc s) = 2 + sum (values_from (F m) 1 s)
 
 -- The first number of the codeword's length, plus the value of what stands before the m ones: nothing, or the digits and a 0, which adds nothing
 unfoldable pub number : ℕ → List Bool → ℕ

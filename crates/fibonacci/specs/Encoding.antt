@@ -1,7 +1,7 @@
 -- Rows of numbers as bits and bytes, and the codewords of a string of bits (paper 01, "The strip"; demand 3), for any order m.
 use Rattle.std.specs.Prelude.{◌≡◌, Bool, true, false, List, [], ◌∷◌, map, ℕ, suc, eqb}
 use Rattle.bits.specs.Bits.{pack}
-use Rattle.codes.specs.Rows.{rowString}
+use Rattle.codes.specs.Rows.{row_string}
 use Rattle.codes.specs.Parse as codes
 use Rattle.codes.specs.Parse.{Parse, parsed, codewords, push, prepend}
 use Rattle.fibonacci.specs.Code.{runs, Codeword, number, codeword}
@@ -9,12 +9,12 @@ use Rattle.fibonacci.specs.Code.{runs, Codeword, number, codeword}
 -- ## Rows
 
 -- The bits of a row: its codewords without a gap
-unfoldable pub rowBits : ℕ → List ℕ → List Bool
-rowBits m row = rowString (codeword m) row
+unfoldable pub row_bits : ℕ → List ℕ → List Bool
+row_bits m row = row_string (codeword m) row
 
 -- The bytes of a row (paper 01: its strip): the bits packed from the top of each byte, the last byte filled up with zeros
 unfoldable pub encoding : ℕ → List ℕ → List ℕ
-encoding m row = pack (rowBits m row)
+encoding m row = pack (row_bits m row)
 
 -- ## The parse of a string of bits (demand 3: its split)
 
@@ -27,14 +27,14 @@ abbrev pub IsParse : ℕ → List Bool → Parse Bool → Type 0
 IsParse m b p = codes.IsParse (Codeword m) (Rest m) b p
 
 -- The parse of b after k ones of its first codeword: a codeword ends wherever m ones are complete
-unfoldable pub parseAfter : ℕ → ℕ → List Bool → Parse Bool
-parseAfter m k [] = parsed [] []
-parseAfter m k (false ∷ b) = push false (parseAfter m 0 b)
-parseAfter m k (true ∷ b) =
-    elim (eqb (suc k) m) [ true ↦ prepend (true ∷ []) (parseAfter m 0 b) | false ↦ push true (parseAfter m (suc k) b) ]
+unfoldable pub parse_after : ℕ → ℕ → List Bool → Parse Bool
+parse_after m k [] = parsed [] []
+parse_after m k (false ∷ b) = push false (parse_after m 0 b)
+parse_after m k (true ∷ b) =
+    elim (eqb (suc k) m) [ true ↦ prepend (true ∷ []) (parse_after m 0 b) | false ↦ push true (parse_after m (suc k) b) ]
 
 unfoldable pub parse : ℕ → List Bool → Parse Bool
-parse m b = parseAfter m 0 b
+parse m b = parse_after m 0 b
 
 -- The numbers of the codewords of a string of bits
 unfoldable pub numbers : ℕ → List Bool → List ℕ

@@ -1,8 +1,8 @@
 // The Fibonacci codes of order 2 to 6: position values and first numbers, by constant tables; the first numbers of order 2 by its position values.
 ghost use Rattle.std.specs.Prelude.{◌≡◌, ◌≤◌};
-ghost use Rattle.calls.specs.Limits.{Order, maxNumber};
+ghost use Rattle.calls.specs.Limits.{Order, max_number};
 ghost use Rattle.fibonacci.specs.Code.{F, first};
-ghost use Rattle.fibonacci.specs.Leaves.{numberOrZero, Positions, Firsts};
+ghost use Rattle.fibonacci.specs.Leaves.{number_or_zero, Positions, Firsts};
 
 mod tables;
 
@@ -79,7 +79,7 @@ pub fn fill_first_numbers(t: &mut [u32; 47], order: usize)
 // F(j), looked up in its order's row. Requires: the row that `positions` gives, and that F(j) is at most 4,294,967,295, which whoever values a digit of a number up
 // to there shows.
 pub fn position(row: &[u32; 47], order: usize, j: usize) -> u64
-    requires { Positions order row.now × (F order j ≤ maxNumber) }
+    requires { Positions order row.now × (F order j ≤ max_number) }
     ensures { result ≡ F order j }
 {
     calls::wide(row[j])
@@ -89,7 +89,7 @@ pub fn position(row: &[u32; 47], order: usize, j: usize) -> u64
 // the row that `first_numbers` gives.
 pub fn first_number(row: &[u32; 47], order: usize, d: usize) -> u64
     requires { Firsts order row.now }
-    ensures { result ≡ numberOrZero (first order d) }
+    ensures { result ≡ number_or_zero (first order d) }
 {
     if d < 47 { calls::wide(row[d]) } else { 0 }
 }

@@ -2,12 +2,12 @@
 use Rattle.std.specs.Prelude.{not, List, ℕ}
 use Rattle.calls.specs.declared.Refusal.TheVariants.{BadOrder}
 use Rattle.calls.specs.Calls.{Outcome, accepted, check, and_then}
-use Rattle.calls.specs.Limits.{is_order, maxNumber}
+use Rattle.calls.specs.Limits.{is_order, max_number}
 use Rattle.calls.specs.Reading.{decode}
 use Rattle.reading.specs.Reading.{fibonacci}
 use Rattle.headers.specs.declared.Header.{Header}
-use Rattle.headers.specs.Headers.{headerOf}
+use Rattle.headers.specs.Headers.{header_of}
 
 -- The header of an encoding: 1; 2, then 4 and 7, 6 as reading has them; else the header of the row that is read
-unfoldable pub readHeader : ℕ → List ℕ → Outcome Header
-readHeader m s = check BadOrder (not (is_order m)) (and_then (decode (fibonacci m) maxNumber s) (λ row. accepted (headerOf m row)))
+unfoldable pub read_header : ℕ → List ℕ → Outcome Header
+read_header m s = check BadOrder (not (is_order m)) (and_then (decode (fibonacci m) max_number s) (λ row. accepted (header_of m row)))

@@ -1,7 +1,7 @@
 // The header of an encoding that comes without one.
 ghost use Rattle.std.specs.Prelude.{◌≡◌};
-ghost use Rattle.headers.specs.Headers.{headerOutcome};
-ghost use Rattle.header_reader.specs.Reading.{readHeader};
+ghost use Rattle.headers.specs.Headers.{header_outcome};
+ghost use Rattle.header_reader.specs.Reading.{read_header};
 
 use calls::Refusal;
 use decoder::SpanAnswer;
@@ -9,7 +9,7 @@ use headers::{Header, HeaderAnswer};
 
 // Reads an encoding for its header.
 pub fn read(order: usize, s: &[u8]) -> HeaderAnswer
-    ensures { headerOutcome result ≡ readHeader order s.now }
+    ensures { header_outcome result ≡ read_header order s.now }
 {
     if !calls::is_order(order) {
         return HeaderAnswer::Refused(Refusal::BadOrder);

@@ -1,9 +1,9 @@
 -- Headers (paper 02, R-4: heads): what goes with an encoding, and what calls answer that give one.
 use Rattle.std.specs.Prelude.{Bool, ◌||◌, List, ℕ, ◌*◌, min, ltb, length}
 use Rattle.lists.specs.Lists.{sum}
-use Rattle.fibonacci.specs.Encoding.{rowBits}
+use Rattle.fibonacci.specs.Encoding.{row_bits}
 use Rattle.calls.specs.Calls.{Outcome, accepted, refused}
-use Rattle.calls.specs.Limits.{maxCount}
+use Rattle.calls.specs.Limits.{max_count}
 use Rattle.headers.specs.declared.Header.{Header}
 use Rattle.headers.specs.declared.EncodingAnswer.{EncodingAnswer}
 use Rattle.headers.specs.declared.EncodingAnswer.TheVariants as encoding
@@ -15,34 +15,34 @@ abbrev pub header : ℕ → ℕ → ℕ → Header
 header bits count total = record { bits = bits; count = count; total = total }
 
 -- The header of a row in order m
-abbrev pub headerOf : ℕ → List ℕ → Header
-headerOf m row = header (length (rowBits m row)) (length row) (sum row)
+abbrev pub header_of : ℕ → List ℕ → Header
+header_of m row = header (length (row_bits m row)) (length row) (sum row)
 
 -- The header before the first number; after a refusal too the three numbers are zeros
 abbrev pub no_header : Header
 no_header = header 0 0 0
 
 -- How many bits an encoding may have, in any order and buffer
-abbrev pub maxBits : ℕ
-maxBits = 192512
+abbrev pub max_bits : ℕ
+max_bits = 192512
 
 -- .. in a buffer of so many bytes
 unfoldable pub capacity : ℕ → ℕ
-capacity room = min (8 * room) maxBits
+capacity room = min (8 * room) max_bits
 
 -- The largest total of a row
-abbrev pub maxTotal : ℕ
-maxTotal = 17592186040320
+abbrev pub max_total : ℕ
+max_total = 17592186040320
 
 -- 18: the bits exceed the buffer or 192,512, the count exceeds 4,096 or the total 17,592,186,040,320
-unfoldable pub isBadHeader : ℕ → Header → Bool
-isBadHeader room h = ltb (capacity room) h.bits || (ltb maxCount h.count || ltb maxTotal h.total)
+unfoldable pub is_bad_header : ℕ → Header → Bool
+is_bad_header room h = ltb (capacity room) h.bits || (ltb max_count h.count || ltb max_total h.total)
 
 -- The answers of the functions
-abbrev pub encodingOutcome : EncodingAnswer → Outcome (ℕ × Header)
-encodingOutcome (encoding.Encoded bytes h) = accepted (bytes, h)
-encodingOutcome (encoding.Refused r) = refused r
+abbrev pub encoding_outcome : EncodingAnswer → Outcome (ℕ × Header)
+encoding_outcome (encoding.Encoded bytes h) = accepted (bytes, h)
+encoding_outcome (encoding.Refused r) = refused r
 
-abbrev pub headerOutcome : HeaderAnswer → Outcome Header
-headerOutcome (found.Found h) = accepted h
-headerOutcome (found.Refused r) = refused r
+abbrev pub header_outcome : HeaderAnswer → Outcome Header
+header_outcome (found.Found h) = accepted h
+header_outcome (found.Refused r) = refused r

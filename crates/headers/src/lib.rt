@@ -1,6 +1,6 @@
 // What goes with an encoding: how many bits are in use, how many numbers they hold, and their total (paper 02, R-4: a head).
 ghost use Rattle.std.specs.Prelude.{◌≡◌};
-ghost use Rattle.headers.specs.Headers.{capacity, isBadHeader};
+ghost use Rattle.headers.specs.Headers.{capacity, is_bad_header};
 
 use calls::Refusal;
 
@@ -37,7 +37,7 @@ pub fn capacity(room: usize) -> usize
 
 // The check of a header that comes with a buffer of so many bytes.
 pub fn is_bad(header: Header, room: usize) -> bool
-    ensures { result ≡ isBadHeader room header }
+    ensures { result ≡ is_bad_header room header }
 {
     header.bits > capacity(room) || (header.count > calls::MAX_COUNT || header.total > MAX_TOTAL)
 }

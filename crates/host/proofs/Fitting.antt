@@ -15,29 +15,29 @@ use Rattle.calls.specs.declared.Refusal.{Refusal}
 use Rattle.calls.specs.declared.Refusal.TheVariants.{BadOrder, TooManyBytes, TooManyCodewords, NoRoom, BadRest, TooLarge, BadSpan}
 use Rattle.calls.specs.Refusals.{reason}
 use Rattle.calls.specs.Calls.{Outcome, accepted, refused, check, and_then}
-use Rattle.calls.specs.Limits.{is_order, maxNumber, maxCount, maxBytes}
-use Rattle.calls.specs.Reading.{checkFinished, contents, decode}
-use Rattle.reading.specs.Reading.{isBadRest, fibonacci}
+use Rattle.calls.specs.Limits.{is_order, max_number, max_count, max_bytes}
+use Rattle.calls.specs.Reading.{check_finished, contents, decode}
+use Rattle.reading.specs.Reading.{is_bad_rest, fibonacci}
 use Rattle.reading.proofs.Decoding.{decode_is}
 use Rattle.totals.specs.Totals.{total}
-use Rattle.totals.proofs.Totals.{span-most}
-use Rattle.table_decoder.specs.Reading.{readBytes}
+use Rattle.totals.proofs.Totals.{span_most}
+use Rattle.table_decoder.specs.Reading.{read_bytes}
 use Rattle.table_decoder.proofs.Answering.{table-decode}
-use Rattle.host.specs.Host.{hostNumber}
+use Rattle.host.specs.Host.{host_number}
 
 -- 7 comes with its place, and every other number alone
-pub host-place : (r : Refusal) {number place : ℕ} → number ≡ (reason r).0 → place ≡ (reason r).1 → number ≡ 7 → 7 + 32 * place ≡ hostNumber (refused r)
-host-place r n p e = rw (p, eq-eqb (reason r).0 7 (sym n ∙ e), hostNumber)
+pub host-place : (r : Refusal) {number place : ℕ} → number ≡ (reason r).0 → place ≡ (reason r).1 → number ≡ 7 → 7 + 32 * place ≡ host_number (refused r)
+host-place r n p e = rw (p, eq-eqb (reason r).0 7 (sym n ∙ e), host_number)
 
-pub host-alone : (r : Refusal) {number : ℕ} → number ≡ (reason r).0 → (number ≡ 7 → ⊥) → number ≡ hostNumber (refused r)
-host-alone r n e = n ∙ rw (ne_eqb (reason r).0 7 (λ h. e (n ∙ h)), hostNumber)
+pub host-alone : (r : Refusal) {number : ℕ} → number ≡ (reason r).0 → (number ≡ 7 → ⊥) → number ≡ host_number (refused r)
+host-alone r n e = n ∙ rw (ne_eqb (reason r).0 7 (λ h. e (n ∙ h)), host_number)
 
 -- A place is at most 4,096, and what is accepted is what it should be
 abbrev pub Fits : {A : Type 0} → (A → Type 0) → Outcome A → Type 0
 Fits P (accepted x) = P x
-Fits P (refused r) = (reason r).1 ≤ maxCount
+Fits P (refused r) = (reason r).1 ≤ max_count
 
-check-fits : {A : Type 0} (P : A → Type 0) (r : Refusal) (t : Bool) (next : Outcome A) → (reason r).1 ≤ maxCount → Fits P next → Fits P (check r t next)
+check-fits : {A : Type 0} (P : A → Type 0) (r : Refusal) (t : Bool) (next : Outcome A) → (reason r).1 ≤ max_count → Fits P next → Fits P (check r t next)
 check-fits P r true next h f = h
 check-fits P r false next h f = f
 
@@ -46,32 +46,32 @@ then-fits : {A B : Type 0} (P : B → Type 0) (d : Outcome A) (next : A → Outc
 then-fits P (accepted x) next f g = g x refl
 then-fits P (refused r) next f g = f
 
-finished-fits : {A : Type 0} (P : A → Type 0) (limit i : ℕ) (ns : List ℕ) (next : Outcome A) → Fits P next → i ≤ maxCount → Fits P (checkFinished limit i ns next)
-unfolding checkFinished
+finished-fits : {A : Type 0} (P : A → Type 0) (limit i : ℕ) (ns : List ℕ) (next : Outcome A) → Fits P next → i ≤ max_count → Fits P (check_finished limit i ns next)
+unfolding check_finished
 finished-fits P limit i [] next f h = f
 finished-fits P limit i (n ∷ ns) next f h =
-    elim (dec_le maxCount i) [
-      | yes l ↦ rw (le-leb maxCount i l) (omega arith)
+    elim (dec_le max_count i) [
+      | yes l ↦ rw (le-leb max_count i l) (omega arith)
       | no l ↦
-          check-fits P TooManyCodewords (leb maxCount i) _ (omega arith)
+          check-fits P TooManyCodewords (leb max_count i) _ (omega arith)
           (check-fits P (TooLarge i) (ltb limit n) _ h (finished-fits P limit (suc i) ns next f (omega arith)))
     ]
 
-decode-fits : (m : ℕ) (s : List ℕ) → Fits (λ x. Unit {0}) (decode (fibonacci m) maxNumber s)
+decode-fits : (m : ℕ) (s : List ℕ) → Fits (λ x. Unit {0}) (decode (fibonacci m) max_number s)
 unfolding decode contents
 decode-fits m s =
-    check-fits _ TooManyBytes (ltb maxBytes (length s)) _ (omega arith)
-    (finished-fits _ maxNumber 0 (numbers m (unpack s)) _ (check-fits _ BadRest (isBadRest (rest (parse m (unpack s)))) _ (omega arith) tt) (omega arith))
+    check-fits _ TooManyBytes (ltb max_bytes (length s)) _ (omega arith)
+    (finished-fits _ max_number 0 (numbers m (unpack s)) _ (check-fits _ BadRest (is_bad_rest (rest (parse m (unpack s)))) _ (omega arith) tt) (omega arith))
 
-pub bytes_fit : (s : List ℕ) (room : ℕ) → Fits (λ n. n ≤ maxCount) (readBytes s room)
-unfolding readBytes
+pub bytes_fit : (s : List ℕ) (room : ℕ) → Fits (λ n. n ≤ max_count) (read_bytes s room)
+unfolding read_bytes
 bytes_fit s room =
-    rw (table-decode s) (then-fits _ (decode (fibonacci 3) maxNumber s) _ (decode-fits 3 s)
-    (λ row e. check-fits _ NoRoom (ltb room (4 * length row)) _ (omega arith) (decode_is 3 maxNumber s row e).long))
+    rw (table-decode s) (then-fits _ (decode (fibonacci 3) max_number s) _ (decode-fits 3 s)
+    (λ row e. check-fits _ NoRoom (ltb room (4 * length row)) _ (omega arith) (decode_is 3 max_number s row e).long))
 
-pub total-fits : (m : ℕ) (s : List ℕ) (a b : ℕ) → Fits (λ x. x ≤ maxNumber * maxCount) (total m s a b)
+pub total-fits : (m : ℕ) (s : List ℕ) (a b : ℕ) → Fits (λ x. x ≤ max_number * max_count) (total m s a b)
 unfolding total
 total-fits m s a b =
     check-fits _ BadOrder (not (is_order m)) _ (omega arith)
-    (then-fits _ (decode (fibonacci m) maxNumber s) _ (decode-fits m s)
-    (λ row e. check-fits _ BadSpan (ltb b a) _ (omega arith) (check-fits _ BadSpan (ltb (length row) b) _ (omega arith) (span-most m s row e a b))))
+    (then-fits _ (decode (fibonacci m) max_number s) _ (decode-fits m s)
+    (λ row e. check-fits _ BadSpan (ltb b a) _ (omega arith) (check-fits _ BadSpan (ltb (length row) b) _ (omega arith) (span_most m s row e a b))))

@@ -4,6 +4,6 @@ use Rattle.calls.specs.Refusals.{reason}
 use Rattle.calls.specs.Calls.{Outcome, accepted, refused}
 
 -- One 64-bit number: the answer number plus 32 times the count or total, or after a 7 plus 32 times the place
-abbrev pub hostNumber : Outcome ℕ → ℕ
-hostNumber (accepted x) = 32 * x
-hostNumber (refused r) = elim (eqb (reason r).0 7) [ true ↦ 7 + 32 * (reason r).1 | false ↦ (reason r).0 ]
+abbrev pub host_number : Outcome ℕ → ℕ
+host_number (accepted x) = 32 * x
+host_number (refused r) = elim (eqb (reason r).0 7) [ true ↦ 7 + 32 * (reason r).1 | false ↦ (reason r).0 ]

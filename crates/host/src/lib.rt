@@ -2,15 +2,15 @@
 ghost use Rattle.std.specs.Prelude.{◌≡◌, ◌≤◌, length};
 ghost use Rattle.calls.specs.Refusals.{reason};
 ghost use Rattle.calls.specs.Calls.{refused};
-ghost use Rattle.calls.specs.Limits.{maxCount};
+ghost use Rattle.calls.specs.Limits.{max_count};
 ghost use Rattle.totals.specs.Totals.{total};
-ghost use Rattle.table_decoder.specs.Reading.{readBytes, readBytesInto};
-ghost use Rattle.host.specs.Host.{hostNumber};
+ghost use Rattle.table_decoder.specs.Reading.{read_bytes, read_bytes_into};
+ghost use Rattle.host.specs.Host.{host_number};
 
 // The host's number for a refusal. Requires: a place of at most 4,096; no refusal of the two functions has a larger one.
 fn number_of(r: calls::Refusal) -> u64
-    requires { (reason r).1 ≤ maxCount }
-    ensures { result ≡ hostNumber (refused r) }
+    requires { (reason r).1 ≤ max_count }
+    ensures { result ≡ host_number (refused r) }
 {
     let told = calls::reason(r);
     if told.number == 7 {
@@ -23,8 +23,8 @@ fn number_of(r: calls::Refusal) -> u64
 // The table decoder: the encoding `s` of order 3, each number of its row into four bytes of `out`, the lowest first.
 #[unsafe(no_mangle)]
 pub extern "C" fn leadginger_read(s: &[u8], out: &mut [u8]) -> u64
-    ensures value { result ≡ hostNumber (readBytes s.now (length out.old)) }
-    ensures out_after { out.new ≡ readBytesInto s.now out.old }
+    ensures value { result ≡ host_number (read_bytes s.now (length out.old)) }
+    ensures out_after { out.new ≡ read_bytes_into s.now out.old }
 {
     let answer = table_decoder::read_bytes(s, out);
     match answer {
@@ -36,7 +36,7 @@ pub extern "C" fn leadginger_read(s: &[u8], out: &mut [u8]) -> u64
 // The span total: the numbers from place a up to but without place b of the encoding `s`.
 #[unsafe(no_mangle)]
 pub extern "C" fn leadginger_total(order: usize, s: &[u8], a: usize, b: usize) -> u64
-    ensures { result ≡ hostNumber (total order s.now a b) }
+    ensures { result ≡ host_number (total order s.now a b) }
 {
     let answer = totals::total(order, s, a, b);
     match answer {

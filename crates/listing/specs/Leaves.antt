@@ -4,6 +4,6 @@ use Rattle.listing.specs.declared.Input.{Input}
 use Rattle.listing.specs.declared.Input.TheVariants.{Bytes, Unreadable}
 
 -- How many bytes of the buffer are the input's
-abbrev pub bytesRead : Input → ℕ
-bytesRead (Bytes n) = n
-bytesRead Unreadable = 0
+abbrev pub bytes_read : Input → ℕ
+bytes_read (Bytes n) = n
+bytes_read Unreadable = 0

@@ -1,8 +1,8 @@
 // The listing program (paper 01, "The listing"): reads standard input to its end, and prints the listing or the refusal. What it prints is
 // `listing_text::listing`'s.
 ghost use Rattle.std.specs.Prelude.{◌≡◌, ◌≤◌, length, take};
-ghost use Rattle.listing_text.specs.Listing.{text, maxTextBytes};
-ghost use Rattle.listing.specs.Leaves.{bytesRead};
+ghost use Rattle.listing_text.specs.Listing.{text, max_text_bytes};
+ghost use Rattle.listing.specs.Leaves.{bytes_read};
 
 use libc::{STDERR_FILENO, STDIN_FILENO, STDOUT_FILENO};
 
@@ -20,7 +20,7 @@ enum Input {
 // Reads until the input ends or the buffer is full, whatever the sizes of the reads. Which bytes an input has no contract can say; so that none is missed is
 // tested.
 fn read(buf: &mut [u8]) -> Input
-    ensures { bytesRead result ≤ length buf.new }
+    ensures { bytes_read result ≤ length buf.new }
 {
     let mut n: usize = 0;
     while n < buf.len() {
@@ -39,8 +39,8 @@ fn read(buf: &mut [u8]) -> Input
 
 // The text for an input. Requires: a buffer that has room for every text, as the program's has.
 fn print(input: &[u8], out: &mut [u8; listing_text::MAX_TEXT_BYTES]) -> usize
-    requires { length out.old ≡ maxTextBytes }
-    ensures { (take result out.new ≡ text input.now) × (result ≤ maxTextBytes) × (length out.new ≡ maxTextBytes) }
+    requires { length out.old ≡ max_text_bytes }
+    ensures { (take result out.new ≡ text input.now) × (result ≤ max_text_bytes) × (length out.new ≡ max_text_bytes) }
 {
     match listing_text::listing(input, out) {
         calls::CountAnswer::Count(n) => n,

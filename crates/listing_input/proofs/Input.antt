@@ -13,8 +13,8 @@ use Rattle.lists.specs.Lists.{All}
 use Rattle.columns.specs.Columns.{column, decimal}
 use Rattle.columns.proofs.Columns.{column-length, column-number, column-below}
 use Rattle.calls.proofs.Checks.{both}
-use Rattle.fibonacci.specs.Leaves.{numberOrZero}
-use Rattle.listing_input.specs.Input.{inputLine, input_of, fields_of, fields, same, isInput}
+use Rattle.fibonacci.specs.Leaves.{number_or_zero}
+use Rattle.listing_input.specs.Input.{input_line, input_of, fields_of, fields, same, is_input}
 
 -- ## Equal lists
 
@@ -47,18 +47,18 @@ same_false x y h = by (same x y) refl
 
 -- ## Lines
 
-line-length : (n : ℕ) → length (inputLine n) ≡ 11
+line-length : (n : ℕ) → length (input_line n) ≡ 11
 line-length n = omega (arith, length-append (column 10 n) (10 ∷ []), column-length 10 n)
 
 -- a line more in front
-lines_cons : (n : ℕ) (ns : List ℕ) → input_of (n ∷ ns) ≡ inputLine n ++ input_of ns
+lines_cons : (n : ℕ) (ns : List ℕ) → input_of (n ∷ ns) ≡ input_line n ++ input_of ns
 unfolding input_of flatten
 lines_cons n ns = refl
 
 lines-length : (ns : List ℕ) → length (input_of ns) ≡ 11 * length ns
 unfolding input_of flatten
 lines-length [] = refl
-lines-length (n ∷ ns) = omega (arith, length-append (inputLine n) (input_of ns), line-length n, lines-length ns)
+lines-length (n ∷ ns) = omega (arith, length-append (input_line n) (input_of ns), line-length n, lines-length ns)
 
 fields-count : (k : ℕ) (s : List ℕ) → length (fields_of k s) ≡ k
 unfolding fields_of
@@ -70,10 +70,10 @@ unfolding fields
 fields-length s = fields-count (length s / 11) s
 
 -- the first number is read off the first line, and the others off what comes after it
-line_read : (n : ℕ) (t : List ℕ) → (take 10 (inputLine n ++ t) ≡ column 10 n) × (drop 11 (inputLine n ++ t) ≡ t)
+line_read : (n : ℕ) (t : List ℕ) → (take 10 (input_line n ++ t) ≡ column 10 n) × (drop 11 (input_line n ++ t) ≡ t)
 line_read n t = (
   ap (take 10) (append_assoc (column 10 n) (10 ∷ []) t) ∙ take_at (column 10 n) ((10 ∷ []) ++ t) 10 (column-length 10 n),
-  drop_at (inputLine n) t 11 (line-length n),
+  drop_at (input_line n) t 11 (line-length n),
 )
 
 fields-lines : (ns : List ℕ) → All (λ n. n < 10 ^ 10) ns → fields_of (length ns) (input_of ns) ≡ ns
@@ -89,7 +89,7 @@ fields-below zero s e = tt
 fields-below (suc k) s e =
     let n : ℕ = decimal (take 10 s) in
     let rest : List ℕ = fields_of k (drop 11 s) in
-    let whole : s ≡ inputLine n ++ input_of rest = e ∙ lines_cons n rest in
+    let whole : s ≡ input_line n ++ input_of rest = e ∙ lines_cons n rest in
     let r = line_read n (input_of rest) in
     let first : take 10 s ≡ column 10 n = ap (take 10) whole ∙ r.0 in
     let after : drop 11 s ≡ input_of rest = ap (drop 11) whole ∙ r.1 in
@@ -106,17 +106,17 @@ unfolding fields
 form-read ns a = let count : length (input_of ns) / 11 ≡ length ns = omega (arith, lines-length ns) in rw count (fields-lines ns a)
 
 -- so a text is an input exactly where it has a line for each of some numbers of up to 10 digits, at least one; and then its numbers are these
-pub lines_are : (s : List ℕ) → isInput s ≡ true → (s ≡ input_of (fields s)) × (1 ≤ length (fields s)) × All (λ n. n < 10 ^ 10) (fields s)
-unfolding isInput
+pub lines_are : (s : List ℕ) → is_input s ≡ true → (s ≡ input_of (fields s)) × (1 ≤ length (fields s)) × All (λ n. n < 10 ^ 10) (fields s)
+unfolding is_input
 lines_are s e =
     let p = both (ltb 0 (length s)) (same s (input_of (fields s))) e in
     let lines : s ≡ input_of (fields s) = same_true s (input_of (fields s)) p.1 in
     let some : 0 < length s = ltb-true 0 (length s) p.0 in
     (lines, omega (arith, ap length lines, lines-length (fields s)), form-below s lines)
 
-pub are-lines : (ns : List ℕ) → 1 ≤ length ns → All (λ n. n < 10 ^ 10) ns → (isInput (input_of ns) ≡ true) × (fields (input_of ns) ≡ ns)
-unfolding isInput
-are-lines ns h a =
+pub are_lines : (ns : List ℕ) → 1 ≤ length ns → All (λ n. n < 10 ^ 10) ns → (is_input (input_of ns) ≡ true) × (fields (input_of ns) ≡ ns)
+unfolding is_input
+are_lines ns h a =
     let read = form-read ns a in
     let some : 0 < length (input_of ns) = omega (arith, lines-length ns) in
     (rw (read, lt-ltb 0 (length (input_of ns)) some) (same_refl (input_of ns)), read)
@@ -124,12 +124,12 @@ are-lines ns h a =
 -- ## Reading line by line
 
 -- no line, or a rest that is no whole line
-pub input_none : (s : List ℕ) → length s ≡ 0 → isInput s ≡ false
-unfolding isInput
+pub input_none : (s : List ℕ) → length s ≡ 0 → is_input s ≡ false
+unfolding is_input
 input_none s e = rw e
 
-pub input-rest : (s : List ℕ) → (length s / 11 * 11 ≡ length s → ⊥) → isInput s ≡ false
-unfolding isInput
+pub input-rest : (s : List ℕ) → (length s / 11 * 11 ≡ length s → ⊥) → is_input s ≡ false
+unfolding is_input
 input-rest s h =
     let other : same s (input_of (fields s)) ≡ false =
     same_false s (input_of (fields s)) (λ (e : s ≡ input_of (fields s)). h (omega (arith, ap length e, lines-length (fields s), fields-length s))) in
@@ -144,11 +144,11 @@ others s i = fields_of (length s / 11 - i) (after s i)
 
 -- after i lines, each of the form: the others decide, and with their numbers the list has all
 pub record Parsed (s : List ℕ) (i : ℕ) (numbers : List ℕ) : Type 0 where
-  pub form : isInput s ≡ same (after s i) (input_of (others s i))
-  pub kept : take i numbers ++ map numberOrZero (others s i) ≡ map numberOrZero (fields s)
+  pub form : is_input s ≡ same (after s i) (input_of (others s i))
+  pub kept : take i numbers ++ map number_or_zero (others s i) ≡ map number_or_zero (fields s)
 
 pub parsed-none : (s numbers : List ℕ) → (length s ≡ 0 → ⊥) → Parsed s 0 numbers
-unfolding isInput fields
+unfolding is_input fields
 parsed-none s numbers h =
     let all : length s / 11 - 0 ≡ length s / 11 = omega arith in
     let some : ltb 0 (length s) ≡ true = lt-ltb 0 (length s) (omega arith) in
@@ -165,27 +165,27 @@ module _ (s : List ℕ) (i : ℕ) (h : i < length s / 11) (n : ℕ) (e : n ≡ d
       let k : length s / 11 - i ≡ suc (length s / 11 - (i + 1)) = omega arith in
       ap (λ (j : ℕ). fields_of j (after s i)) k ∙ ap₂ (λ (a : ℕ) (t : List ℕ). a ∷ fields_of (length s / 11 - (i + 1)) t) (sym e) next
 
-  split : same (after s i) (input_of (others s i)) ≡ (same (take 11 (after s i)) (inputLine n) && same (after s (i + 1)) (input_of (others s (i + 1))))
+  split : same (after s i) (input_of (others s i)) ≡ (same (take 11 (after s i)) (input_line n) && same (after s (i + 1)) (input_of (others s (i + 1))))
   split =
       let t : List ℕ = after s i in
-      let long : length (take 11 t) ≡ length (inputLine n) = omega (arith, length-take 11 t, length-drop (i * 11) s, line-length n) in
+      let long : length (take 11 t) ≡ length (input_line n) = omega (arith, length-take 11 t, length-drop (i * 11) s, line-length n) in
       ap₂ same (sym (take-append-drop 11 t) ∙ ap (λ (l : List ℕ). take 11 t ++ l) next) (ap input_of left ∙ lines_cons n (others s (i + 1)))
-      ∙ same-append (take 11 t) (after s (i + 1)) (inputLine n) (input_of (others s (i + 1))) long
+      ∙ same-append (take 11 t) (after s (i + 1)) (input_line n) (input_of (others s (i + 1))) long
 
-  pub parsed-other : (numbers : List ℕ) → Parsed s i numbers → same (take 11 (after s i)) (inputLine n) ≡ false → isInput s ≡ false
+  pub parsed-other : (numbers : List ℕ) → Parsed s i numbers → same (take 11 (after s i)) (input_line n) ≡ false → is_input s ≡ false
   parsed-other numbers p q = p.form ∙ split ∙ rw q refl
 
-  pub parsed-more : (numbers : List ℕ) → Parsed s i numbers → same (take 11 (after s i)) (inputLine n) ≡ true → i < length numbers
-      → Parsed s (i + 1) (set numbers i (numberOrZero n))
+  pub parsed-more : (numbers : List ℕ) → Parsed s i numbers → same (take 11 (after s i)) (input_line n) ≡ true → i < length numbers
+      → Parsed s (i + 1) (set numbers i (number_or_zero n))
   parsed-more numbers p q room =
-      let one : take (i + 1) (set numbers i (numberOrZero n)) ≡ take i numbers ++ (numberOrZero n ∷ []) = rw add-one (take-suc-set numbers i (numberOrZero n) room) in
+      let one : take (i + 1) (set numbers i (number_or_zero n)) ≡ take i numbers ++ (number_or_zero n ∷ []) = rw add-one (take-suc-set numbers i (number_or_zero n) room) in
       record {
         form = p.form ∙ split ∙ rw q refl;
-        kept = rw (one, append_assoc (take i numbers) (numberOrZero n ∷ []) (map numberOrZero (others s (i + 1)))) (rw left at p.kept);
+        kept = rw (one, append_assoc (take i numbers) (number_or_zero n ∷ []) (map number_or_zero (others s (i + 1)))) (rw left at p.kept);
       }
 
 pub parsed-end : (s : List ℕ) (i : ℕ) (numbers : List ℕ) → Parsed s i numbers → length s / 11 * 11 ≡ length s → i ≡ length s / 11
-    → (isInput s ≡ true) × (take (length s / 11) numbers ≡ map numberOrZero (fields s))
+    → (is_input s ≡ true) × (take (length s / 11) numbers ≡ map number_or_zero (fields s))
 unfolding fields_of input_of flatten same
 parsed-end s i numbers p whole e =
     let none : length s / 11 - i ≡ 0 = omega arith in
@@ -197,7 +197,7 @@ parsed-end s i numbers p whole e =
 
 -- ## A line printed anew and compared
 
-pub line_made : (n : ℕ) → set (sets (replicate 11 0) 0 (column 10 n)) 10 10 ≡ inputLine n
+pub line_made : (n : ℕ) → set (sets (replicate 11 0) 0 (column 10 n)) 10 10 ≡ input_line n
 line_made n =
     let long = column-length 10 n in
     let all : sets (replicate 11 0) 0 (column 10 n) ≡ column 10 n ++ (0 ∷ []) =

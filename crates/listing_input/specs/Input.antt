@@ -4,16 +4,16 @@ use mathlib.Core.List.{List, [], ◌∷◌, ◌++◌, map, flatten}
 use Rattle.columns.specs.Columns.{ascii, column, decimal}
 
 -- A line: a number right-justified with spaces in 10 columns, without leading zeros, and a line feed
-abbrev pub inputLine : ℕ → List ℕ
-inputLine n = column 10 n ++ ascii "\n"
+abbrev pub input_line : ℕ → List ℕ
+input_line n = column 10 n ++ ascii "\n"
 
 -- The text that has a line for each number
 unfoldable pub input_of : List ℕ → List ℕ
-input_of ns = flatten (map inputLine ns)
+input_of ns = flatten (map input_line ns)
 
 -- How many bytes an input has at most: the lines of an order and of the numbers of the longest row
-abbrev pub maxInputBytes : ℕ
-maxInputBytes = 45067
+abbrev pub max_input_bytes : ℕ
+max_input_bytes = 45067
 
 -- The numbers in the first 10 bytes of every 11, so many of them
 unfoldable pub fields_of : ℕ → List ℕ → List ℕ
@@ -32,5 +32,5 @@ same (x ∷ xs) [] = false
 same (x ∷ xs) (y ∷ ys) = eqb x y && same xs ys
 
 -- There is a line, and each is of the form: the text is that which has a line for each of its numbers
-unfoldable pub isInput : List ℕ → Bool
-isInput s = ltb 0 (length s) && same s (input_of (fields s))
+unfoldable pub is_input : List ℕ → Bool
+is_input s = ltb 0 (length s) && same s (input_of (fields s))

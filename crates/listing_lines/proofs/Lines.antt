@@ -9,8 +9,8 @@ use lib.Seq.{sets}
 use Rattle.lists.proofs.Lists.{drop-next, sets_then}
 use Rattle.columns.proofs.Columns.{column-length}
 use Rattle.fibonacci.specs.Code.{codeword}
-use Rattle.calls.specs.Limits.{maxNumber}
-use Rattle.listing_lines.specs.Lines.{header, row_line, row_lines, lastLine, lines}
+use Rattle.calls.specs.Limits.{max_number}
+use Rattle.listing_lines.specs.Lines.{header, row_line, row_lines, last_line, lines}
 
 -- ## Lengths
 
@@ -23,8 +23,8 @@ unfolding row_lines
 rows-length m place total [] = refl
 rows-length m place total (n ∷ row) = simp (length-append, line-length) (omega (arith, rows-length m (suc place) (total + n) row))
 
-last-length : (bytes : ℕ) → length (lastLine bytes) ≡ 17
-unfolding lastLine
+last-length : (bytes : ℕ) → length (last_line bytes) ≡ 17
+unfolding last_line
 last-length bytes = simp (length-append, column-length)
 
 pub lines-length : (m : ℕ) (row : List ℕ) (bytes : ℕ) → length (lines m row bytes) ≡ 55 + 38 * length row
@@ -32,7 +32,7 @@ unfolding lines
 lines-length m row bytes =
     omega (
       arith,
-      length-append (header ++ row_lines m 0 0 row) (lastLine bytes),
+      length-append (header ++ row_lines m 0 0 row) (last_line bytes),
       length-append header (row_lines m 0 0 row),
       rows-length m 0 0 row,
       last-length bytes,
@@ -42,13 +42,13 @@ lines-length m row bytes =
 
 -- after i numbers: their sum, which is not large; the lines of the others make the whole
 abbrev pub Listed : ℕ → List ℕ → ℕ → ℕ → List ℕ → List ℕ → Type 0
-Listed m row i total now old = (total ≤ maxNumber * i) × (sets now (38 + 38 * i) (row_lines m i total (drop i row)) ≡ sets old 38 (row_lines m 0 0 row))
+Listed m row i total now old = (total ≤ max_number * i) × (sets now (38 + 38 * i) (row_lines m i total (drop i row)) ≡ sets old 38 (row_lines m 0 0 row))
 
 pub listed-none : (m : ℕ) (row old : List ℕ) → Listed m row 0 0 old old
 listed-none m row old = (omega arith, refl)
 
 module _ (m : ℕ) (row : List ℕ) (i total : ℕ) (now old : List ℕ) (p : Listed m row i total now old) where
-  pub listed_more : (n bits : ℕ) (new : List ℕ) → i < length row → n ≡ get_or row i 0 → n ≤ maxNumber → bits ≡ length (codeword m n)
+  pub listed_more : (n bits : ℕ) (new : List ℕ) → i < length row → n ≡ get_or row i 0 → n ≤ max_number → bits ≡ length (codeword m n)
       → new ≡ sets now (38 + 38 * i) (row_line i n bits (total + n)) → Listed m row (i + 1) (total + n) new old
   unfolding row_lines
   listed_more n bits new h e b q s =

@@ -16,9 +16,9 @@ row_lines m place total [] = []
 row_lines m place total (n ∷ ns) = row_line place n (length (codeword m n)) (total + n) ++ row_lines m (suc place) (total + n) ns
 
 -- The last line: the byte count of the encoding in 11 columns
-unfoldable pub lastLine : ℕ → List ℕ
-lastLine bytes = ascii "BYTES" ++ column 11 bytes ++ ascii "\n"
+unfoldable pub last_line : ℕ → List ℕ
+last_line bytes = ascii "BYTES" ++ column 11 bytes ++ ascii "\n"
 
 -- The listing of a row whose encoding has so many bytes
 unfoldable pub lines : ℕ → List ℕ → ℕ → List ℕ
-lines m row bytes = header ++ row_lines m 0 0 row ++ lastLine bytes
+lines m row bytes = header ++ row_lines m 0 0 row ++ last_line bytes

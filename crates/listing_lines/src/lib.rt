@@ -1,7 +1,7 @@
 // The lines of a row's listing (paper 01, "The listing"), put into a buffer.
 ghost use Rattle.std.specs.Prelude.{◌≡◌, ◌+◌, ◌*◌, ◌≤◌, length};
 ghost use Rattle.std.proofs.lemmas.List.Edits.{sets};
-ghost use Rattle.calls.specs.Limits.{Order, Legal, maxNumber, maxCount};
+ghost use Rattle.calls.specs.Limits.{Order, Legal, max_number, max_count};
 ghost use Rattle.listing_lines.specs.Lines.{row_line, row_lines, lines};
 
 // A number's line, from byte `at` on. Requires: there is room, as for all of the lines.
@@ -18,7 +18,7 @@ fn put_line(out: &mut [u8], at: usize, place: u64, n: u64, bits: u64, total: u64
 
 // The lines of a row, after the header. Requires: what `put_lines` requires.
 fn put_rows(out: &mut [u8], order: usize, row: &[u32])
-    requires { Order order × (length row.now ≤ maxCount) × Legal maxNumber row.now × (38 + 38 * length row.now ≤ length out.old) }
+    requires { Order order × (length row.now ≤ max_count) × Legal max_number row.now × (38 + 38 * length row.now ≤ length out.old) }
     ensures { out.new ≡ sets out.old 38 (row_lines order 0 0 row.now) }
 {
     let firsts = fibonacci::first_numbers(order);
@@ -33,7 +33,7 @@ fn put_rows(out: &mut [u8], order: usize, row: &[u32])
 
 // The whole listing of a row. Requires: a legal order and row, and room for the listing, which the listing program's text checks.
 pub fn put_lines(out: &mut [u8], order: usize, row: &[u32], bytes: usize)
-    requires { Order order × (length row.now ≤ maxCount) × Legal maxNumber row.now × (55 + 38 * length row.now ≤ length out.old) }
+    requires { Order order × (length row.now ≤ max_count) × Legal max_number row.now × (55 + 38 * length row.now ≤ length out.old) }
     ensures { out.new ≡ sets out.old 0 (lines order row.now bytes) }
 {
     columns::put_text(out, 0, b"PLACE     NUMBER BITS           TOTAL\n");

@@ -12,36 +12,36 @@ use Rattle.calls.proofs.Checks.{order_is, number_is, check-then, each-accepted, 
 use Rattle.calls.specs.declared.Refusal.{Refusal}
 use Rattle.calls.specs.declared.Refusal.TheVariants.{BadOrder, BadNumber, TooManyNumbers}
 use Rattle.calls.specs.Calls.{Outcome, accepted, refused, check, and_then}
-use Rattle.calls.specs.Limits.{within, is_order, isOutside, Legal, maxNumber, maxCount, checkEach}
-use Rattle.fibonacci.specs.Leaves.{numberOrZero}
+use Rattle.calls.specs.Limits.{within, is_order, is_outside, Legal, max_number, max_count, check_each}
+use Rattle.fibonacci.specs.Leaves.{number_or_zero}
 use Rattle.fibonacci.proofs.Lookup.{number-kept, number-zero}
 use Rattle.headers.specs.declared.Header.{Header}
 use Rattle.encoder.specs.Writing.{write}
 use Rattle.listing_lines.specs.Lines.{lines}
-use Rattle.listing_text.specs.Listing.{listingOf}
+use Rattle.listing_text.specs.Listing.{listing_of}
 
-outside-same : (n : ℕ) → isOutside maxNumber (numberOrZero n) ≡ isOutside maxNumber n
-unfolding isOutside
+outside-same : (n : ℕ) → is_outside max_number (number_or_zero n) ≡ is_outside max_number n
+unfolding is_outside
 outside-same n =
-    elim (dec_le n maxNumber) [
-      | yes h ↦ ap (isOutside maxNumber) (number-kept n h)
-      | no h ↦ ap (isOutside maxNumber) (number-zero n (omega arith)) ∙ sym (ap (λ (t : Bool). eqb n 0 || t) (lt-ltb maxNumber n (omega arith)) ∙ or-true (eqb n 0))
+    elim (dec_le n max_number) [
+      | yes h ↦ ap (is_outside max_number) (number-kept n h)
+      | no h ↦ ap (is_outside max_number) (number-zero n (omega arith)) ∙ sym (ap (λ (t : Bool). eqb n 0 || t) (lt-ltb max_number n (omega arith)) ∙ or-true (eqb n 0))
     ]
 
-order_same : (m : ℕ) → is_order (numberOrZero m) ≡ is_order m
+order_same : (m : ℕ) → is_order (number_or_zero m) ≡ is_order m
 unfolding is_order
 order_same m =
-    elim (dec_le m maxNumber) [
+    elim (dec_le m max_number) [
       | yes h ↦ ap (within 2 6) (number-kept m h)
       | no h ↦ ap (within 2 6) (number-zero m (omega arith)) ∙ sym (ap (λ (t : Bool). leb 2 m && t) (lt-leb m 6 (omega arith)) ∙ and-false (leb 2 m))
     ]
 
-row_same : (row : List ℕ) → Legal maxNumber row → map numberOrZero row ≡ row
+row_same : (row : List ℕ) → Legal max_number row → map number_or_zero row ≡ row
 row_same [] a = refl
-row_same (n ∷ row) a = ap₂ ◌∷◌ (number-kept n (number_is maxNumber n a.0).1) (row_same row a.1)
+row_same (n ∷ row) a = ap₂ ◌∷◌ (number-kept n (number_is max_number n a.0).1) (row_same row a.1)
 
-each_same : {A : Type 0} (place : ℕ) (row : List ℕ) (next : Outcome A) → checkEach BadNumber maxNumber place (map numberOrZero row) next ≡ checkEach BadNumber maxNumber place row next
-unfolding checkEach
+each_same : {A : Type 0} (place : ℕ) (row : List ℕ) (next : Outcome A) → check_each BadNumber max_number place (map number_or_zero row) next ≡ check_each BadNumber max_number place row next
+unfolding check_each
 each_same place [] next = refl
 each_same place (n ∷ row) next =
     ap₂ (λ (t : Bool) (o : Outcome _). check (BadNumber place) t o) (outside-same n) (each_same (suc place) row next)
@@ -49,41 +49,41 @@ each_same place (n ∷ row) next =
 -- ## The listing of a row
 
 -- a number is at fault: whatever it is, the listing is refused
-list-fault : (m : ℕ) (row : List ℕ) (r : Refusal) → checkEach {A = ℕ} BadNumber maxNumber 0 row (accepted 0) ≡ refused r
-    → listingOf m row ≡ check BadOrder (not (is_order m)) (check TooManyNumbers (ltb maxCount (length row)) (refused r))
-unfolding listingOf write
+list-fault : (m : ℕ) (row : List ℕ) (r : Refusal) → check_each {A = ℕ} BadNumber max_number 0 row (accepted 0) ≡ refused r
+    → listing_of m row ≡ check BadOrder (not (is_order m)) (check TooManyNumbers (ltb max_count (length row)) (refused r))
+unfolding listing_of write
 list-fault m row r e =
-    ap (λ (o : Outcome (ℕ × Header)). and_then (check BadOrder (not (is_order m)) (check TooManyNumbers (ltb maxCount (length row)) o)) (λ x. accepted (lines m row x.0)))
-    (each-refused BadNumber maxNumber 0 row 0 r _ e)
+    ap (λ (o : Outcome (ℕ × Header)). and_then (check BadOrder (not (is_order m)) (check TooManyNumbers (ltb max_count (length row)) o)) (λ x. accepted (lines m row x.0)))
+    (each-refused BadNumber max_number 0 row 0 r _ e)
     ∙ check-then BadOrder (not (is_order m)) _ _
-    ∙ ap (check BadOrder (not (is_order m))) (check-then TooManyNumbers (ltb maxCount (length row)) (refused r) _)
+    ∙ ap (check BadOrder (not (is_order m))) (check-then TooManyNumbers (ltb max_count (length row)) (refused r) _)
 
-list-row : (m : ℕ) (row : List ℕ) → listingOf m (map numberOrZero row) ≡ listingOf m row
-list-row m row = by (checkEach {A = ℕ} BadNumber maxNumber 0 row (accepted 0)) refl
+list-row : (m : ℕ) (row : List ℕ) → listing_of m (map number_or_zero row) ≡ listing_of m row
+list-row m row = by (check_each {A = ℕ} BadNumber max_number 0 row (accepted 0)) refl
   where
-    by : (o : Outcome ℕ) → checkEach {A = ℕ} BadNumber maxNumber 0 row (accepted 0) ≡ o → listingOf m (map numberOrZero row) ≡ listingOf m row
-    by (accepted x) e = ap (listingOf m) (row_same row (each-accepted BadNumber maxNumber 0 row _ x e).0)
+    by : (o : Outcome ℕ) → check_each {A = ℕ} BadNumber max_number 0 row (accepted 0) ≡ o → listing_of m (map number_or_zero row) ≡ listing_of m row
+    by (accepted x) e = ap (listing_of m) (row_same row (each-accepted BadNumber max_number 0 row _ x e).0)
     by (refused r) e =
-        list-fault m (map numberOrZero row) r (each_same 0 row (accepted 0) ∙ e)
-        ∙ ap (λ (n : ℕ). check BadOrder (not (is_order m)) (check TooManyNumbers (ltb maxCount n) (refused r))) (length-map row numberOrZero)
+        list-fault m (map number_or_zero row) r (each_same 0 row (accepted 0) ∙ e)
+        ∙ ap (λ (n : ℕ). check BadOrder (not (is_order m)) (check TooManyNumbers (ltb max_count n) (refused r))) (length-map row number_or_zero)
         ∙ sym (list-fault m row r e)
 
-list-order : (m : ℕ) (row : List ℕ) → is_order m ≡ false → listingOf m row ≡ refused BadOrder
-unfolding listingOf write
+list-order : (m : ℕ) (row : List ℕ) → is_order m ≡ false → listing_of m row ≡ refused BadOrder
+unfolding listing_of write
 list-order m row o = rw o refl
 
-pub listing-same : (m : ℕ) (row : List ℕ) → listingOf (numberOrZero m) (map numberOrZero row) ≡ listingOf m row
+pub listing-same : (m : ℕ) (row : List ℕ) → listing_of (number_or_zero m) (map number_or_zero row) ≡ listing_of m row
 listing-same m row = by (is_order m) refl
   where
-    by : (t : Bool) → is_order m ≡ t → listingOf (numberOrZero m) (map numberOrZero row) ≡ listingOf m row
-    by true o = ap (λ (k : ℕ). listingOf k (map numberOrZero row)) (number-kept m (omega (arith, (order_is m o).1))) ∙ list-row m row
-    by false o = list-order (numberOrZero m) (map numberOrZero row) (order_same m ∙ o) ∙ sym (list-order m row o)
+    by : (t : Bool) → is_order m ≡ t → listing_of (number_or_zero m) (map number_or_zero row) ≡ listing_of m row
+    by true o = ap (λ (k : ℕ). listing_of k (map number_or_zero row)) (number-kept m (omega (arith, (order_is m o).1))) ∙ list-row m row
+    by false o = list-order (number_or_zero m) (map number_or_zero row) (order_same m ∙ o) ∙ sym (list-order m row o)
 
 -- ## The order and the row in a list
 
 -- the first numbers of a list are those of the input: the first of them is the order, the others are the row
-pub order_row : (count : ℕ) (numbers ns : List ℕ) → 1 ≤ count → 1 ≤ length ns → take count numbers ≡ map numberOrZero ns
-    → (get_or numbers 0 0 ≡ numberOrZero (get_or ns 0 0)) × (take (count - 1) (drop 1 numbers) ≡ map numberOrZero (drop 1 ns))
+pub order_row : (count : ℕ) (numbers ns : List ℕ) → 1 ≤ count → 1 ≤ length ns → take count numbers ≡ map number_or_zero ns
+    → (get_or numbers 0 0 ≡ number_or_zero (get_or ns 0 0)) × (take (count - 1) (drop 1 numbers) ≡ map number_or_zero (drop 1 ns))
 order_row zero numbers ns h k e = absurd (omega arith)
 order_row (suc count) numbers [] h k e = absurd (omega arith)
 order_row (suc count) [] (n ∷ ns) h k e = absurd (omega (arith, ap length e))
@@ -93,9 +93,9 @@ order_row (suc count) (x ∷ numbers) (n ∷ ns) h k e =
       ap (λ (j : ℕ). take j numbers) one ∙ ap (drop 1) e,
     )
 
-pub number-below : (n : ℕ) → numberOrZero n ≤ maxNumber
+pub number-below : (n : ℕ) → number_or_zero n ≤ max_number
 number-below n =
-    elim (dec_le n maxNumber) [
+    elim (dec_le n max_number) [
       | yes h ↦ omega (arith, number-kept n h)
       | no h ↦ omega (arith, number-zero n (omega arith))
     ]

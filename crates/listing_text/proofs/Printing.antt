@@ -15,19 +15,19 @@ use Rattle.calls.specs.declared.CountAnswer.{CountAnswer}
 use Rattle.calls.specs.declared.CountAnswer.TheVariants.{Count, Refused}
 use Rattle.calls.specs.Calls.{accepted, refused, check}
 use Rattle.calls.proofs.Checks.{check-passed, accepted-one, not-both}
-use Rattle.listing_text.specs.Listing.{refusalLine, put, putInto, Puts}
+use Rattle.listing_text.specs.Listing.{refusal_line, put, put_into, Puts}
 
-pub refusal-length : (number : ℕ) → length (refusalLine number) ≡ 8
-unfolding refusalLine
+pub refusal-length : (number : ℕ) → length (refusal_line number) ≡ 8
+unfolding refusal_line
 refusal-length number = simp (length-append, column-length)
 
 module _ (t before : List ℕ) (n : ℕ) (e : length t ≡ n) where
-  pub put-room : length before < n → (refused NoRoom ≡ put t (length before)) × (before ≡ putInto t before)
-  unfolding put putInto
+  pub put-room : length before < n → (refused NoRoom ≡ put t (length before)) × (before ≡ put_into t before)
+  unfolding put put_into
   put-room h = let q = lt-ltb (length before) (length t) (omega arith) in (rw q refl, rw q refl)
 
-  pub put-done : (after : List ℕ) → n ≤ length before → after ≡ sets before 0 t → (accepted n ≡ put t (length before)) × (after ≡ putInto t before)
-  unfolding put putInto
+  pub put-done : (after : List ℕ) → n ≤ length before → after ≡ sets before 0 t → (accepted n ≡ put t (length before)) × (after ≡ put_into t before)
+  unfolding put put_into
   put-done after h s =
       let q = le-ltb (length before) (length t) (omega arith) in
       let z : 0 + length t ≡ length t = omega arith in
@@ -39,7 +39,7 @@ puts-same t t' before answer after e p = subst (λ (x : List ℕ). Puts x before
 
 -- what an answer says of the buffer
 pub puts-text : (t before : List ℕ) (n : ℕ) (after : List ℕ) → Puts t before (Count n) after → (take n after ≡ t) × (n ≤ length before)
-unfolding put putInto
+unfolding put put_into
 puts-text t before n after p =
     let q = check-passed NoRoom (ltb (length before) (length t)) (accepted (length t)) n (sym p.0) in
     let e : length t ≡ n = accepted-one q.1 in

@@ -1,6 +1,6 @@
 // The listing of a row (paper 01, "The listing"), from the bytes of the input to those of the output.
 ghost use Rattle.calls.specs.Refusals.{reason};
-ghost use Rattle.listing_text.specs.Listing.{refusalLine, listingOf, printed, text, Puts};
+ghost use Rattle.listing_text.specs.Listing.{refusal_line, listing_of, printed, text, Puts};
 
 use calls::{CountAnswer, Refusal};
 use headers::EncodingAnswer;
@@ -10,7 +10,7 @@ pub const MAX_TEXT_BYTES: usize = 155703;
 
 // The line of a refusal.
 fn refuse(out: &mut [u8], r: Refusal) -> CountAnswer
-    ensures { Puts (refusalLine (reason r).0) out.old result out.new }
+    ensures { Puts (refusal_line (reason r).0) out.old result out.new }
 {
     if out.len() < 8 {
         return CountAnswer::Refused(Refusal::NoRoom);
@@ -24,7 +24,7 @@ fn refuse(out: &mut [u8], r: Refusal) -> CountAnswer
 
 // The listing of a row, or the refusal of writing it. The row is written to a buffer of its own, for the checks and the byte count.
 fn list(order: usize, row: &[u32], out: &mut [u8]) -> CountAnswer
-    ensures { Puts (printed (listingOf order row.now)) out.old result out.new }
+    ensures { Puts (printed (listing_of order row.now)) out.old result out.new }
 {
     let mut encoding = [0u8; calls::MAX_BYTES];
     let written = encoder::write(order, row, &mut encoding);

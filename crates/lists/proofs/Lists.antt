@@ -8,7 +8,7 @@ use native.Mathlib.Numerals.{add-one}
 use native.Mathlib.Nat.{add-zero, zero-add, suc-add}
 use lib.ListN.{length, get_or, take, drop, set, replicate, length-append}
 use lib.Seq.{sets, take-nil, take-take, take-suc, take_all, drop-cons, drop_at, paste-suc}
-use Rattle.lists.specs.Lists.{valuesFrom}
+use Rattle.lists.specs.Lists.{values_from}
 
 module _ {A : Type 0} where
   flatten-append : (x y : List (List A)) → flatten (x ++ y) ≡ flatten x ++ flatten y
@@ -40,7 +40,7 @@ module _ {A : Type 0} where
       rw (add-one, ← q) (simp zero-add at e)
 
 -- entry i of a list of values
-pub values-at : {A : Type 0} (f : ℕ → A) (j n i : ℕ) (z : A) → i < n → get_or (valuesFrom f j n) i z ≡ f (j + i)
+pub values-at : {A : Type 0} (f : ℕ → A) (j n i : ℕ) (z : A) → i < n → get_or (values_from f j n) i z ≡ f (j + i)
 values-at f j zero i z h = absurd (omega arith)
 values-at f j (suc n) zero z h = ap f (sym (add-zero j))
 values-at f j (suc n) (suc i) z h = values-at f (suc j) n i z (omega arith) ∙ ap f (omega arith)

@@ -17,6 +17,6 @@ abbrev pub sum : List ℕ → ℕ
 sum l = foldr ◌+◌ 0 l
 
 -- f(j), f(j + 1), .. , n values
-abbrev pub valuesFrom : {A : Type 0} → (ℕ → A) → ℕ → ℕ → List A
-valuesFrom f j zero = []
-valuesFrom f j (suc n) = f j ∷ valuesFrom f (suc j) n
+abbrev pub values_from : {A : Type 0} → (ℕ → A) → ℕ → ℕ → List A
+values_from f j zero = []
+values_from f j (suc n) = f j ∷ values_from f (suc j) n

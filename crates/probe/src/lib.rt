@@ -2,18 +2,18 @@
 // the last parameter, as far as that has room: the papers' answer number, the place, and four results, which are zeros where there are none.
 ghost use Rattle.std.specs.Prelude.{◌≡◌, length, set};
 ghost use Rattle.std.proofs.lemmas.List.Edits.{sets};
-ghost use Rattle.reading.specs.Reading.{read, readInto};
-ghost use Rattle.totals.specs.Totals.{total, repeatedTotal};
-ghost use Rattle.encoder.specs.Writing.{write, writeInto};
-ghost use Rattle.appender.specs.Appending.{append, appendInto};
-ghost use Rattle.replacer.specs.Replacing.{replace, replaceInto, preview};
+ghost use Rattle.reading.specs.Reading.{read, read_into};
+ghost use Rattle.totals.specs.Totals.{total, repeated_total};
+ghost use Rattle.encoder.specs.Writing.{write, write_into};
+ghost use Rattle.appender.specs.Appending.{append, append_into};
+ghost use Rattle.replacer.specs.Replacing.{replace, replace_into, preview};
 ghost use Rattle.headers.specs.Headers.{header};
-ghost use Rattle.header_reader.specs.Reading.{readHeader};
-ghost use Rattle.table_decoder.specs.Reading.{readTable, readTableInto, readBytes, readBytesInto};
-ghost use Rattle.dense_encoder.specs.Writing.{writeDense, writeDenseInto};
-ghost use Rattle.dense_decoder.specs.Reading.{readDense, readDenseInto};
-ghost use Rattle.wavelet.specs.Questions.{build, buildInto, extract, rank, select};
-ghost use Rattle.listing_text.specs.Listing.{text, put, putInto};
+ghost use Rattle.header_reader.specs.Reading.{read_header};
+ghost use Rattle.table_decoder.specs.Reading.{read_table, read_table_into, read_bytes, read_bytes_into};
+ghost use Rattle.dense_encoder.specs.Writing.{write_dense, write_dense_into};
+ghost use Rattle.dense_decoder.specs.Reading.{read_dense, read_dense_into};
+ghost use Rattle.wavelet.specs.Questions.{build, build_into, extract, rank, select};
+ghost use Rattle.listing_text.specs.Listing.{text, put, put_into};
 ghost use Rattle.answers.specs.Leaves.{single, pair, three, headed, values};
 ghost use Rattle.probe.specs.Leaves.{told};
 
@@ -41,7 +41,7 @@ fn tell(answer: &mut [u64], a: answers::Answer)
 #[unsafe(no_mangle)]
 pub extern "C" fn probe_write(order: usize, row: &[u32], out: &mut [u8], answer: &mut [u64])
     ensures answer_after { answer.new ≡ told (headed (write order row.now (length out.old))) answer.old }
-    ensures out_after { out.new ≡ writeInto order row.now out.old }
+    ensures out_after { out.new ≡ write_into order row.now out.old }
 {
     tell(
         answer,
@@ -52,23 +52,23 @@ pub extern "C" fn probe_write(order: usize, row: &[u32], out: &mut [u8], answer:
 #[unsafe(no_mangle)]
 pub extern "C" fn probe_read(order: usize, s: &[u8], out: &mut [u32], answer: &mut [u64])
     ensures answer_after { answer.new ≡ told (single (read order s.now (length out.old))) answer.old }
-    ensures out_after { out.new ≡ readInto order s.now out.old }
+    ensures out_after { out.new ≡ read_into order s.now out.old }
 {
     tell(answer, answers::of_count(decoder::read(order, s, out)));
 }
 
 #[unsafe(no_mangle)]
 pub extern "C" fn probe_table_read(s: &[u8], out: &mut [u32], answer: &mut [u64])
-    ensures answer_after { answer.new ≡ told (single (readTable s.now (length out.old))) answer.old }
-    ensures out_after { out.new ≡ readTableInto s.now out.old }
+    ensures answer_after { answer.new ≡ told (single (read_table s.now (length out.old))) answer.old }
+    ensures out_after { out.new ≡ read_table_into s.now out.old }
 {
     tell(answer, answers::of_count(table_decoder::read(s, out)));
 }
 
 #[unsafe(no_mangle)]
 pub extern "C" fn probe_table_read_bytes(s: &[u8], out: &mut [u8], answer: &mut [u64])
-    ensures answer_after { answer.new ≡ told (single (readBytes s.now (length out.old))) answer.old }
-    ensures out_after { out.new ≡ readBytesInto s.now out.old }
+    ensures answer_after { answer.new ≡ told (single (read_bytes s.now (length out.old))) answer.old }
+    ensures out_after { out.new ≡ read_bytes_into s.now out.old }
 {
     tell(answer, answers::of_count(table_decoder::read_bytes(s, out)));
 }
@@ -80,8 +80,8 @@ pub extern "C" fn probe_dense_write(
     out: &mut [u8],
     answer: &mut [u64],
 )
-    ensures answer_after { answer.new ≡ told (single (writeDense stoppers row.now (length out.old))) answer.old }
-    ensures out_after { out.new ≡ writeDenseInto stoppers row.now out.old }
+    ensures answer_after { answer.new ≡ told (single (write_dense stoppers row.now (length out.old))) answer.old }
+    ensures out_after { out.new ≡ write_dense_into stoppers row.now out.old }
 {
     tell(
         answer,
@@ -91,8 +91,8 @@ pub extern "C" fn probe_dense_write(
 
 #[unsafe(no_mangle)]
 pub extern "C" fn probe_dense_read(stoppers: usize, b: &[u8], out: &mut [u32], answer: &mut [u64])
-    ensures answer_after { answer.new ≡ told (single (readDense stoppers b.now (length out.old))) answer.old }
-    ensures out_after { out.new ≡ readDenseInto stoppers b.now out.old }
+    ensures answer_after { answer.new ≡ told (single (read_dense stoppers b.now (length out.old))) answer.old }
+    ensures out_after { out.new ≡ read_dense_into stoppers b.now out.old }
 {
     tell(
         answer,
@@ -102,7 +102,7 @@ pub extern "C" fn probe_dense_read(stoppers: usize, b: &[u8], out: &mut [u32], a
 
 #[unsafe(no_mangle)]
 pub extern "C" fn probe_header(order: usize, s: &[u8], answer: &mut [u64])
-    ensures { answer.new ≡ told (three (readHeader order s.now)) answer.old }
+    ensures { answer.new ≡ told (three (read_header order s.now)) answer.old }
 {
     tell(answer, answers::of_header(header_reader::read(order, s)));
 }
@@ -118,7 +118,7 @@ pub extern "C" fn probe_append(
     answer: &mut [u64],
 )
     ensures answer_after { answer.new ≡ told (headed (append order (length buf.old) (header bits count total) n)) answer.old }
-    ensures buf_after { buf.new ≡ appendInto order buf.old (header bits count total) n }
+    ensures buf_after { buf.new ≡ append_into order buf.old (header bits count total) n }
 {
     let header = headers::Header { bits, count, total };
     tell(
@@ -137,7 +137,7 @@ pub extern "C" fn probe_replace(
     answer: &mut [u64],
 )
     ensures answer_after { answer.new ≡ told (headed (replace order buf.old used place n)) answer.old }
-    ensures buf_after { buf.new ≡ replaceInto order buf.old used place n }
+    ensures buf_after { buf.new ≡ replace_into order buf.old used place n }
 {
     tell(
         answer,
@@ -177,7 +177,7 @@ pub extern "C" fn probe_repeated_total(
     shared: u64,
     answer: &mut [u64],
 )
-    ensures { answer.new ≡ told (single (repeatedTotal order s.now repeats shared)) answer.old }
+    ensures { answer.new ≡ told (single (repeated_total order s.now repeats shared)) answer.old }
 {
     tell(
         answer,
@@ -194,7 +194,7 @@ pub extern "C" fn probe_build(
     answer: &mut [u64],
 )
     ensures answer_after { answer.new ≡ told (single (build order alphabet row.now (length out.old))) answer.old }
-    ensures out_after { out.new ≡ buildInto order alphabet row.now out.old }
+    ensures out_after { out.new ≡ build_into order alphabet row.now out.old }
 {
     tell(
         answer,
@@ -258,7 +258,7 @@ pub extern "C" fn probe_select(
 #[unsafe(no_mangle)]
 pub extern "C" fn probe_listing(input: &[u8], out: &mut [u8], answer: &mut [u64])
     ensures answer_after { answer.new ≡ told (single (put (text input.now) (length out.old))) answer.old }
-    ensures out_after { out.new ≡ putInto (text input.now) out.old }
+    ensures out_after { out.new ≡ put_into (text input.now) out.old }
 {
     tell(answer, answers::of_count(listing_text::listing(input, out)));
 }

@@ -1,6 +1,6 @@
 -- What the search for a bit promises.
 use Rattle.std.specs.Prelude.{◌≡◌, Bool, List, ◌⊎◌, ℕ, ◌+◌, ◌≤◌, ◌<◌, take, drop}
-use Rattle.bits.specs.Bits.{unpack, count, selectBit}
+use Rattle.bits.specs.Bits.{unpack, count, select_bit}
 use Rattle.rank_select.specs.declared.Skipped.{Skipped}
 
 -- The k bits from bit `from` on
@@ -9,7 +9,7 @@ range from k s = take k (drop from (unpack s))
 
 -- Where the bit v is in the bits b that has `left` others of its kind before it from bit `at` on
 abbrev pub target : Bool → List Bool → Skipped → ℕ
-target v b x = x.at + selectBit v x.left (drop x.at b)
+target v b x = x.at + select_bit v x.left (drop x.at b)
 
 -- From x to y in the k bits b: the bit searched for is the same, and no whole step is left, or the next one holds it
 abbrev pub Skips : Bool → ℕ → ℕ → List Bool → Skipped → Skipped → Type 0

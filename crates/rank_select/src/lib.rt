@@ -1,6 +1,6 @@
 // The ones of any range of the bits of a byte slice, and the place of a bit in it, by words.
 ghost use Rattle.std.specs.Prelude.{◌≡◌, true, ◌+◌, ◌*◌, ◌/◌, ◌^◌, ◌≤◌, ◌<◌, length, take};
-ghost use Rattle.bits.specs.Bits.{unpack, count, selectBit};
+ghost use Rattle.bits.specs.Bits.{unpack, count, select_bit};
 ghost use Rattle.rank_select.specs.Leaves.{range, Skips};
 
 // How many ones the whole words among the first q bytes have.
@@ -103,7 +103,7 @@ fn skip(s: &[u8], from: usize, k: usize, v: bool, step: usize, start: Skipped) -
 // Requires: what `ones_from` requires, which the index shows too.
 pub fn select_bit(s: &[u8], from: usize, k: usize, v: bool, j: usize) -> usize
     requires { (from + k ≤ 8 * length s.now) × (from + k < 2 ^ 64) }
-    ensures { result ≡ selectBit v j (range from k s.now) }
+    ensures { result ≡ select_bit v j (range from k s.now) }
 {
     let words = skip(s, from, k, v, 64, Skipped { at: 0, left: j });
     let bytes = skip(s, from, k, v, 8, words);

@@ -18,15 +18,15 @@ use Rattle.fibonacci.specs.Code.{ones, value, first, number}
 use Rattle.fibonacci.specs.Encoding.{parse, numbers}
 use Rattle.calls.specs.declared.Refusal.TheVariants.{BadRest}
 use Rattle.calls.specs.Calls.{accepted, refused, check}
-use Rattle.calls.specs.Limits.{is_number, Legal, maxNumber, maxCount}
+use Rattle.calls.specs.Limits.{is_number, Legal, max_number, max_count}
 use Rattle.calls.specs.Reading.{contents}
 use Rattle.calls.proofs.Checks.{both, number_is}
 use Rattle.calls.proofs.Finished.{illegal-above}
 use Rattle.calls.proofs.Decoding.{contents-end}
 use Rattle.fibonacci.proofs.Numeration.{F-pos}
 use Rattle.fibonacci.proofs.Numbers.{first_pos}
-use Rattle.reading.specs.Reading.{isBadRest, fibonacci}
-use Rattle.reading.specs.Leaves.{NumberOf, isPadding}
+use Rattle.reading.specs.Reading.{is_bad_rest, fibonacci}
+use Rattle.reading.specs.Leaves.{NumberOf, is_padding}
 
 -- ## Pending bits at the end
 
@@ -59,7 +59,7 @@ module _ (m : ℕ) (body : List Bool) (len val run : ℕ) (pos : 1 ≤ m) (short
   pending-ones : count true pending ≡ count true body + run
   pending-ones = omega (arith, count-append true body (ones run), count_ones run)
 
-  pub padding-is : isPadding len val run ≡ true → (length pending < 8) × (count true pending ≡ 0) × (run ≡ 0)
+  pub padding-is : is_padding len val run ≡ true → (length pending < 8) × (count true pending ≡ 0) × (run ≡ 0)
   padding-is e =
       let p = both (ltb len 8) (eqb val 0 && eqb run 0) e in
       let q = both (eqb val 0) (eqb run 0) p.1 in
@@ -68,7 +68,7 @@ module _ (m : ℕ) (body : List Bool) (len val run : ℕ) (pos : 1 ≤ m) (short
       let v : value m 1 body ≡ 0 = omega (arith, eqb-true val 0 q.0, s.1) in
       (omega (arith, pending-long, s.0, ltb-true len 8 p.0), omega (arith, pending-ones, value_none m 1 body v pos), r)
 
-  pub padding-not : isPadding len val run ≡ false → (8 ≤ length pending) ⊎ (1 ≤ count true pending)
+  pub padding-not : is_padding len val run ≡ false → (8 ≤ length pending) ⊎ (1 ≤ count true pending)
   padding-not e =
       elim (dec_le 8 len) [
         | yes l ↦ inl (omega (arith, pending-long, far l))
@@ -85,21 +85,21 @@ module _ (m : ℕ) (body : List Bool) (len val run : ℕ) (pos : 1 ≤ m) (short
 -- ## What the contents of an encoding are refused for
 
 -- the rest
-rest-bad : (r : List Bool) → (8 ≤ length r) ⊎ (1 ≤ count true r) → isBadRest r ≡ true
+rest-bad : (r : List Bool) → (8 ≤ length r) ⊎ (1 ≤ count true r) → is_bad_rest r ≡ true
 rest-bad r (inl l) = simp (le-leb 8 (length r) l)
 rest-bad r (inr c) = rw (le-leb 1 (count true r) c) (or-true (leb 8 (length r)))
 
-pub rest-good : (r : List Bool) → length r < 8 → count true r ≡ 0 → isBadRest r ≡ false
+pub rest-good : (r : List Bool) → length r < 8 → count true r ≡ 0 → is_bad_rest r ≡ false
 rest-good r l c = simp (lt-leb 8 (length r) l, lt-leb 1 (count true r) (omega arith))
 
 -- The numbers `done` have passed their checks, no codeword is left, and the rest decides
 module _ (limit m : ℕ) (s done : List ℕ) (legal : Legal limit done) (words : List (List Bool)) (r : List Bool) (e : parse m (unpack s) ≡ parsed words r)
-    (w : map (number m) words ≡ done) (l : length done ≤ maxCount) where
-  ended : contents (fibonacci m) limit s ≡ check BadRest (isBadRest r) (accepted done)
+    (w : map (number m) words ≡ done) (l : length done ≤ max_count) where
+  ended : contents (fibonacci m) limit s ≡ check BadRest (is_bad_rest r) (accepted done)
   unfolding numbers
   ended =
       contents-end (fibonacci m) limit s done legal (ap (λ (p : Parse Bool). map (number m) (codewords p)) e ∙ w) l
-      ∙ ap (λ (p : Parse Bool). check BadRest (isBadRest (rest p)) (accepted done)) e
+      ∙ ap (λ (p : Parse Bool). check BadRest (is_bad_rest (rest p)) (accepted done)) e
 
   pub contents-rest : (8 ≤ length r) ⊎ (1 ≤ count true r) → contents (fibonacci m) limit s ≡ refused BadRest
   contents-rest c = ended ∙ ap (λ (t : Bool). check BadRest t (accepted done)) (rest-bad r c)
@@ -124,19 +124,19 @@ numbers-positive m b = coded-positive m (codewords (parse m b))
 -- ## A number by its length and its value
 
 -- n was found for the codeword's own number x: it passes the check only where it is x, and fails only where x is above the limit
-module _ (m len val n : ℕ) (is : NumberOf m len val n) (x : ℕ) (near : first m len ≤ maxNumber → x ≡ first m len + val) (far : maxNumber < first m len → maxNumber < x)
-    (limit : ℕ) (top : limit ≤ maxNumber) where
+module _ (m len val n : ℕ) (is : NumberOf m len val n) (x : ℕ) (near : first m len ≤ max_number → x ≡ first m len + val) (far : max_number < first m len → max_number < x)
+    (limit : ℕ) (top : limit ≤ max_number) where
   pub numbered-legal : is_number limit n ≡ true → n ≡ x
   numbered-legal l =
       let pos = (number_is limit n l).0 in
-      elim (dec_le (first m len) maxNumber) [
+      elim (dec_le (first m len) max_number) [
         | yes g ↦ omega (arith, is.0 g, near g)
         | no g ↦ absurd (omega (arith, is.1 (omega arith)))
       ]
 
   pub numbered-large : is_number limit n ≡ false → limit < x
   numbered-large l =
-      elim (dec_le (first m len) maxNumber) [
+      elim (dec_le (first m len) max_number) [
         | yes g ↦ omega (arith, is.0 g, near g, illegal-above limit n (omega (arith, is.0 g, first_pos m len)) l)
         | no g ↦ omega (arith, far (omega arith))
       ]

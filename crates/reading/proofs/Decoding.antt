@@ -10,18 +10,18 @@ use borrow.Author.Tests.{leb-false}
 use Rattle.bits.specs.Bits.{unpack, count}
 use Rattle.bits.proofs.Count.{none-zeros}
 use Rattle.codes.specs.Parse.{rest}
-use Rattle.fibonacci.specs.Encoding.{rowBits, parse}
+use Rattle.fibonacci.specs.Encoding.{row_bits, parse}
 use Rattle.fibonacci.proofs.Rows.{numbers-bits}
 use Rattle.calls.specs.declared.Refusal.TheVariants.{BadOrder}
 use Rattle.calls.specs.declared.CountAnswer.{CountAnswer}
 use Rattle.calls.specs.Calls.{accepted, refused}
-use Rattle.calls.specs.Limits.{is_order, Order, maxNumber}
+use Rattle.calls.specs.Limits.{is_order, Order, max_number}
 use Rattle.calls.specs.Reading.{decode}
 use Rattle.calls.specs.Leaves.{Scanned, Delivers}
 use Rattle.calls.proofs.Checks.{neither, order_is, is-order}
 use Rattle.calls.proofs.Decoding.{Decoded, called_is, called-refused, called-row, called-delivered}
 use Rattle.calls.proofs.Decoding as calls
-use Rattle.reading.specs.Reading.{fibonacci, read, readInto, ReadPromise}
+use Rattle.reading.specs.Reading.{fibonacci, read, read_into, ReadPromise}
 use Rattle.reading.proofs.Checking.{numbers-positive}
 
 -- ## What is known of an encoding that is read
@@ -38,31 +38,31 @@ module _ (m limit : ℕ) (s row : List ℕ) where
       (leb-false 8 (length r) good.0, omega (arith, leb-false 1 (count true r) good.1))
 
   -- .. so the bits are those of the row, and zeros
-  pub decoded-bits : 1 ≤ m → Decoded (fibonacci m) limit s row → unpack s ≡ rowBits m row ++ replicate (length (rest (parse m (unpack s)))) false
+  pub decoded-bits : 1 ≤ m → Decoded (fibonacci m) limit s row → unpack s ≡ row_bits m row ++ replicate (length (rest (parse m (unpack s)))) false
   decoded-bits l d =
       let r : List Bool = rest (parse m (unpack s)) in
-      let whole : rowBits m row ++ r ≡ unpack s = rw d.is (numbers-bits m (unpack s) l) in
-      sym whole ∙ ap (λ (z : List Bool). rowBits m row ++ z) (none-zeros r (decoded-rest d).1)
+      let whole : row_bits m row ++ r ≡ unpack s = rw d.is (numbers-bits m (unpack s) l) in
+      sym whole ∙ ap (λ (z : List Bool). row_bits m row ++ z) (none-zeros r (decoded-rest d).1)
 
 -- ## The answers
 
 pub read_is : (m : ℕ) (s : List ℕ) (room n : ℕ) → read m s room ≡ accepted n
-    → Order m × ((row : List ℕ) × (decode (fibonacci m) maxNumber s ≡ accepted row) × (n ≡ length row) × (length row ≤ room))
+    → Order m × ((row : List ℕ) × (decode (fibonacci m) max_number s ≡ accepted row) × (n ≡ length row) × (length row ≤ room))
 unfolding read
-read_is m s room n e = let x = called_is BadOrder (is_order m) (fibonacci m) maxNumber s room n e in (order_is m x.0, x.1)
+read_is m s room n e = let x = called_is BadOrder (is_order m) (fibonacci m) max_number s room n e in (order_is m x.0, x.1)
 
 module _ (m : ℕ) (s before : List ℕ) where
-  pub read-row : Order m → (row : List ℕ) → decode (fibonacci m) maxNumber s ≡ accepted row → length row ≤ length before
-      → (read m s (length before) ≡ accepted (length row)) × (readInto m s before ≡ row ++ drop (length row) before)
-  unfolding read readInto
-  read-row o = called-row BadOrder (is_order m) (fibonacci m) maxNumber s before (is-order m o) (numbers-positive m (unpack s))
+  pub read-row : Order m → (row : List ℕ) → decode (fibonacci m) max_number s ≡ accepted row → length row ≤ length before
+      → (read m s (length before) ≡ accepted (length row)) × (read_into m s before ≡ row ++ drop (length row) before)
+  unfolding read read_into
+  read-row o = called-row BadOrder (is_order m) (fibonacci m) max_number s before (is-order m o) (numbers-positive m (unpack s))
 
-  pub read-order : is_order m ≡ false → (refused BadOrder ≡ read m s (length before)) × (before ≡ readInto m s before)
-  unfolding read readInto
-  read-order = called-refused BadOrder (is_order m) (fibonacci m) maxNumber s before
+  pub read-order : is_order m ≡ false → (refused BadOrder ≡ read m s (length before)) × (before ≡ read_into m s before)
+  unfolding read read_into
+  read-order = called-refused BadOrder (is_order m) (fibonacci m) max_number s before
 
   pub delivered-read : (list after : List ℕ) (scanned a : CountAnswer) → is_order m ≡ true
-      → Scanned (decode (fibonacci m) maxNumber s) scanned list → Delivers scanned list before a after → ReadPromise m s before a after
-  unfolding read readInto
+      → Scanned (decode (fibonacci m) max_number s) scanned list → Delivers scanned list before a after → ReadPromise m s before a after
+  unfolding read read_into
   delivered-read list after scanned a o =
-      called-delivered BadOrder (is_order m) (fibonacci m) maxNumber s before o (numbers-positive m (unpack s)) list after scanned a
+      called-delivered BadOrder (is_order m) (fibonacci m) max_number s before o (numbers-positive m (unpack s)) list after scanned a

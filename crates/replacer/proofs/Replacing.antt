@@ -15,25 +15,25 @@ use Rattle.bits.proofs.Bytes.{unpack-length}
 use Rattle.bits.proofs.Count.{none-zeros}
 use Rattle.codes.specs.Parse.{rest}
 use Rattle.fibonacci.specs.Code.{codeword}
-use Rattle.fibonacci.specs.Encoding.{rowBits, encoding, parse, numbers}
+use Rattle.fibonacci.specs.Encoding.{row_bits, encoding, parse, numbers}
 use Rattle.fibonacci.proofs.Lookup.{codeword-bits}
 use Rattle.fibonacci.proofs.Rows.{numbers-bits, encoding-length, bits-few}
 use Rattle.calls.specs.declared.Refusal.{Refusal}
 use Rattle.calls.specs.declared.Refusal.TheVariants.{BadOrder, PastBuffer, BadPlace, BadNumber, NoRoom}
 use Rattle.calls.specs.Calls.{accepted, refused}
-use Rattle.calls.specs.Limits.{is_order, Order, is_number, isOutside, maxNumber, maxBytes}
+use Rattle.calls.specs.Limits.{is_order, Order, is_number, is_outside, max_number, max_bytes}
 use Rattle.calls.specs.Reading.{decode}
 use Rattle.calls.proofs.Checks.{order_is, number-inside, inside-number, number-outside, check-passed, then-passed, accepted-one}
 use Rattle.reading.specs.Reading.{fibonacci}
 use Rattle.reading.proofs.Decoding.{decode_is, decoded-rest}
 use Rattle.headers.specs.declared.Header.{Header}
-use Rattle.headers.specs.Headers.{headerOf, maxBits}
+use Rattle.headers.specs.Headers.{header_of, max_bits}
 use Rattle.bit_moves.specs.Leaves.{splice}
 use Rattle.bit_moves.proofs.Splices.{splice-packed}
 use Rattle.replacer.specs.declared.Replacement.{Replacement}
 use Rattle.replacer.specs.declared.Planned.{Planned}
 use Rattle.replacer.specs.Leaves.{Puts, Plans}
-use Rattle.replacer.specs.Replacing.{change, replace, filled, replaceInto}
+use Rattle.replacer.specs.Replacing.{change, replace, filled, replace_into}
 use Rattle.replacer.proofs.Rows.{start, was, start-within, splice-row}
 
 -- ## A number for another of a row
@@ -42,28 +42,28 @@ module _ (m room : ℕ) (row : List ℕ) (p n : ℕ) where
   -- it accepts the number
   pub record Changeable : Type 0 where
     pub within : p < length row
-    pub legal : is_number maxNumber n ≡ true
+    pub legal : is_number max_number n ≡ true
     pub fits : length (encoding m (set row p n)) ≤ room
 
   abbrev pub changed : ℕ × Header
-  changed = (length (encoding m (set row p n)), headerOf m (set row p n))
+  changed = (length (encoding m (set row p n)), header_of m (set row p n))
 
   pub change-is : (x : ℕ × Header) → change m room row p n ≡ accepted x → Changeable × (x ≡ changed)
   unfolding change
   change-is x e =
       let p8 = check-passed BadPlace (leb (length row) p) _ _ e in
-      let p3 = check-passed (BadNumber 0) (isOutside maxNumber n) _ _ p8.1 in
+      let p3 = check-passed (BadNumber 0) (is_outside max_number n) _ _ p8.1 in
       let p5 = check-passed NoRoom (ltb room (length (encoding m (set row p n)))) _ _ p3.1 in (
-        record { within = leb-false (length row) p p8.0; legal = inside-number maxNumber n p3.0; fits = ltb-false _ _ p5.0 },
+        record { within = leb-false (length row) p p8.0; legal = inside-number max_number n p3.0; fits = ltb-false _ _ p5.0 },
         sym (accepted-one p5.1),
       )
 
   pub change-accepts : Changeable → change m room row p n ≡ accepted changed
   unfolding change
-  change-accepts c = rw (lt-leb (length row) p c.within, number-inside maxNumber n c.legal, le-ltb room _ c.fits) refl
+  change-accepts c = rw (lt-leb (length row) p c.within, number-inside max_number n c.legal, le-ltb room _ c.fits) refl
 
   -- with the header of the changed row at hand
-  pub change-header : (h : Header) → h ≡ headerOf m (set row p n) → Changeable → change m room row p n ≡ accepted (byte_count h.bits, h)
+  pub change-header : (h : Header) → h ≡ header_of m (set row p n) → Changeable → change m room row p n ≡ accepted (byte_count h.bits, h)
   change-header h e c =
       let b : length (encoding m (set row p n)) ≡ byte_count h.bits = encoding-length m (set row p n) ∙ ap (λ (g : Header). byte_count g.bits) (sym e) in
       change-accepts c ∙ ap₂ (λ (k : ℕ) (g : Header). accepted (k, g)) b (sym e)
@@ -73,13 +73,13 @@ module _ (m room : ℕ) (row : List ℕ) (p n : ℕ) where
   change-place h = rw (le-leb (length row) p h) refl
 
   module _ (h : p < length row) where
-    pub change-number : is_number maxNumber n ≡ false → change m room row p n ≡ refused (BadNumber 0)
+    pub change-number : is_number max_number n ≡ false → change m room row p n ≡ refused (BadNumber 0)
     unfolding change
-    change-number f = rw (lt-leb (length row) p h, number-outside maxNumber n f) refl
+    change-number f = rw (lt-leb (length row) p h, number-outside max_number n f) refl
 
-    pub change-room : is_number maxNumber n ≡ true → room < length (encoding m (set row p n)) → change m room row p n ≡ refused NoRoom
+    pub change-room : is_number max_number n ≡ true → room < length (encoding m (set row p n)) → change m room row p n ≡ refused NoRoom
     unfolding change
-    change-room legal l = rw (lt-leb (length row) p h, number-inside maxNumber n legal, lt-ltb room _ l) refl
+    change-room legal l = rw (lt-leb (length row) p h, number-inside max_number n legal, lt-ltb room _ l) refl
 
 -- ## In a buffer
 
@@ -94,11 +94,11 @@ module _ (m : ℕ) (before : List ℕ) (used p n : ℕ) where
     replace-past h = rw (o, lt-ltb (length before) used h) refl
 
     module _ (i : used ≤ length before) where
-      pub replace-unread : (r : Refusal) → decode (fibonacci m) maxNumber (take used before) ≡ refused r → replace m before used p n ≡ refused r
+      pub replace-unread : (r : Refusal) → decode (fibonacci m) max_number (take used before) ≡ refused r → replace m before used p n ≡ refused r
       unfolding replace
       replace-unread r e = rw (o, le-ltb (length before) used i, e) refl
 
-      pub replace-read : (row : List ℕ) → decode (fibonacci m) maxNumber (take used before) ≡ accepted row → replace m before used p n ≡ change m (length before) row p n
+      pub replace-read : (row : List ℕ) → decode (fibonacci m) max_number (take used before) ≡ accepted row → replace m before used p n ≡ change m (length before) row p n
       unfolding replace
       replace-read row e = rw (o, le-ltb (length before) used i, e) refl
 
@@ -107,38 +107,38 @@ module _ (m : ℕ) (before : List ℕ) (used p n : ℕ) where
     abbrev pub row : List ℕ
     row = numbers m (unpack (take used before))
 
-    pub replace-is : Order m × (used ≤ length before) × (decode (fibonacci m) maxNumber (take used before) ≡ accepted row) × Changeable m (length before) row p n
+    pub replace-is : Order m × (used ≤ length before) × (decode (fibonacci m) max_number (take used before) ≡ accepted row) × Changeable m (length before) row p n
         × (x ≡ changed m (length before) row p n)
     unfolding replace
     replace-is =
         let p1 = check-passed BadOrder (not (is_order m)) _ _ e in
         let p2 = check-passed PastBuffer (ltb (length before) used) _ _ p1.1 in
-        let t = then-passed (decode (fibonacci m) maxNumber (take used before)) _ _ p2.1 in
-        let is : t.0 ≡ row = (decode_is m maxNumber (take used before) t.0 t.1).is in
+        let t = then-passed (decode (fibonacci m) max_number (take used before)) _ _ p2.1 in
+        let is : t.0 ≡ row = (decode_is m max_number (take used before) t.0 t.1).is in
         let c = change-is m (length before) row p n x (rw is at t.2) in
         (order_is m (not-false _ p1.0), ltb-false (length before) used p2.0, t.1 ∙ ap accepted is, c.0, c.1)
 
 -- ## What it leaves behind
 
 module _ (m : ℕ) (before : List ℕ) (used p n : ℕ) where
-  pub replace-refused : (r : Refusal) → replace m before used p n ≡ refused r → before ≡ replaceInto m before used p n
-  unfolding replaceInto
+  pub replace-refused : (r : Refusal) → replace m before used p n ≡ refused r → before ≡ replace_into m before used p n
+  unfolding replace_into
   replace-refused r e = rw e refl
 
 -- the bits of a row that was read are followed by zeros
-module _ (m : ℕ) (s row : List ℕ) (o : Order m) (e : decode (fibonacci m) maxNumber s ≡ accepted row) where
-  pub read-zeros : unpack s ≡ rowBits m row ++ replicate (length (rest (parse m (unpack s)))) false
+module _ (m : ℕ) (s row : List ℕ) (o : Order m) (e : decode (fibonacci m) max_number s ≡ accepted row) where
+  pub read-zeros : unpack s ≡ row_bits m row ++ replicate (length (rest (parse m (unpack s)))) false
   read-zeros =
-      let d = decode_is m maxNumber s row e in
-      let whole : rowBits m row ++ rest (parse m (unpack s)) ≡ unpack s = rw d.is (numbers-bits m (unpack s) (omega (arith, o))) in
-      sym whole ∙ ap (λ (l : List Bool). rowBits m row ++ l) (none-zeros (rest (parse m (unpack s))) (decoded-rest m maxNumber s row d).1)
+      let d = decode_is m max_number s row e in
+      let whole : row_bits m row ++ rest (parse m (unpack s)) ≡ unpack s = rw d.is (numbers-bits m (unpack s) (omega (arith, o))) in
+      sym whole ∙ ap (λ (l : List Bool). row_bits m row ++ l) (none-zeros (rest (parse m (unpack s))) (decoded-rest m max_number s row d).1)
 
-  pub read-bits : length (rowBits m row) ≤ 8 * length s
+  pub read-bits : length (row_bits m row) ≤ 8 * length s
   read-bits =
       omega (
         arith,
         ap length read-zeros,
-        length-append (rowBits m row) (replicate (length (rest (parse m (unpack s)))) false),
+        length-append (row_bits m row) (replicate (length (rest (parse m (unpack s)))) false),
         unpack-length s,
       )
 
@@ -149,23 +149,23 @@ module _ (m : ℕ) (before : List ℕ) (used p n : ℕ) (x : ℕ × Header) (e :
   abbrev new : List ℕ
   new = encoding m (set old_row p n)
 
-  pub into : replaceInto m before used p n ≡ filled m (set old_row p n) used ++ drop (length (filled m (set old_row p n) used)) before
-  unfolding replaceInto
+  pub into : replace_into m before used p n ≡ filled m (set old_row p n) used ++ drop (length (filled m (set old_row p n) used)) before
+  unfolding replace_into
   into = rw e refl
 
   -- the codeword is put, and the bits behind it have moved
   pub replace-put : (after : List ℕ) → Bytes before → Bytes after → (end at old : ℕ) (word : List Bool) → end ≡ max used (byte_count x.1.bits)
-      → at ≡ length (rowBits m (take p old_row)) → old ≡ length (codeword m (get_or old_row p 0)) → word ≡ codeword m n
-      → unpack after ≡ fit (8 * end) (splice at old word (unpack (take used before))) ++ unpack (drop end before) → after ≡ replaceInto m before used p n
+      → at ≡ length (row_bits m (take p old_row)) → old ≡ length (codeword m (get_or old_row p 0)) → word ≡ codeword m n
+      → unpack after ≡ fit (8 * end) (splice at old word (unpack (take used before))) ++ unpack (drop end before) → after ≡ replace_into m before used p n
   unfolding encoding
   replace-put after bb ba end at old word ee ea eo ew u =
       let i = replace-is m before used p n x e in
       let h = i.3.within in
-      let count : length new ≡ byte_count (length (rowBits m (set old_row p n))) = encoding-length m (set old_row p n) in
-      let bits : x.1.bits ≡ length (rowBits m (set old_row p n)) = ap (λ (y : ℕ × Header). y.1.bits) i.4 in
+      let count : length new ≡ byte_count (length (row_bits m (set old_row p n))) = encoding-length m (set old_row p n) in
+      let bits : x.1.bits ≡ length (row_bits m (set old_row p n)) = ap (λ (y : ℕ × Header). y.1.bits) i.4 in
       let spliced = splice-row m old_row p n h in
       let same : after ≡ new ++ (replicate (end - length new) 0 ++ drop end before) =
-      rw spliced at (splice-packed before after used end (start m old_row p n h) (length (codeword m (was m old_row p n h))) (length (rest (parse m (unpack (take used before))))) (codeword m n) (rowBits m old_row)
+      rw spliced at (splice-packed before after used end (start m old_row p n h) (length (codeword m (was m old_row p n h))) (length (rest (parse m (unpack (take used before))))) (codeword m n) (row_bits m old_row)
       (start-within m old_row p n h) (read-zeros m (take used before) old_row i.0 i.2) (rw spliced (omega arith)) bb ba (rw (ea, eo, ew) at u)) in
       let z : end - length new ≡ used - length new = omega arith in
       let k : length (filled m (set old_row p n) used) ≡ end =
@@ -179,26 +179,26 @@ planned-as m before used p {n} {k} {x} {y} e f = λ h. subst (λ (i : ℕ). Plan
 
 -- what is planned is in use, and the buffer has room for what comes of it
 pub record Room (m : ℕ) (before : List ℕ) (used : ℕ) (x : Replacement) : Type 0 where
-  pub used-fits : used ≤ length before
-  pub used-most : used ≤ maxBytes
+  pub used_fits : used ≤ length before
+  pub used_most : used ≤ max_bytes
   pub some : 1 ≤ x.old
   pub in_use : x.start + x.old ≤ 8 * used
   pub fits : byte_count x.header.bits ≤ length before
-  pub most : x.header.bits ≤ maxBits
+  pub most : x.header.bits ≤ max_bits
 
 pub planned-room : (m : ℕ) (before : List ℕ) (used p n : ℕ) (x : Replacement) → replace m before used p n ≡ accepted (byte_count x.header.bits, x.header)
     → Puts m (numbers m (unpack (take used before))) p n x → Room m before used x
 planned-room m before used p n x e t =
     let i = replace-is m before used p n (byte_count x.header.bits, x.header) e in
     let old : List ℕ = numbers m (unpack (take used before)) in
-    let d = decode_is m maxNumber (take used before) old i.2 in
+    let d = decode_is m max_number (take used before) old i.2 in
     let lu : length (take used before) ≡ used = length-take-le used before i.1 in
     let bytes : byte_count x.header.bits ≡ length (encoding m (set old p n)) = ap (λ (y : ℕ × Header). y.0) i.4 in
-    let bits : x.header.bits ≡ length (rowBits m (set old p n)) = ap (λ (y : ℕ × Header). y.1.bits) i.4 in
-    let few = bits-few m (set old p n) i.0 (all_set (λ k. is_number maxNumber k ≡ true) old p n d.legal i.3.legal) in
+    let bits : x.header.bits ≡ length (row_bits m (set old p n)) = ap (λ (y : ℕ × Header). y.1.bits) i.4 in
+    let few = bits-few m (set old p n) i.0 (all_set (λ k. is_number max_number k ≡ true) old p n d.legal i.3.legal) in
     record {
-      used-fits = i.1;
-      used-most = omega (arith, lu, d.bytes);
+      used_fits = i.1;
+      used_most = omega (arith, lu, d.bytes);
       some = omega (arith, t.old, codeword-bits m (get_or old p 0), i.0);
       in_use = omega (arith, t.start, t.old, start-within m old p n t.within, read-bits m (take used before) old i.0 i.2, lu);
       fits = omega (arith, bytes, i.3.fits);

@@ -9,12 +9,12 @@ use lib.Seq.{take_at, drop-append-add, drop-append_seam, split_at, set_split, sl
 use Rattle.lists.specs.Lists.{sum}
 use Rattle.lists.proofs.Sums.{sum-append}
 use Rattle.fibonacci.specs.Code.{codeword}
-use Rattle.fibonacci.specs.Encoding.{rowBits}
+use Rattle.fibonacci.specs.Encoding.{row_bits}
 use Rattle.fibonacci.proofs.Rows.{bits-append, bits-few}
 use Rattle.fibonacci.proofs.Sums.{sum-most}
-use Rattle.calls.specs.Limits.{Order, Legal, maxNumber, maxCount}
+use Rattle.calls.specs.Limits.{Order, Legal, max_number, max_count}
 use Rattle.calls.proofs.Checks.{number_is, legal-at}
-use Rattle.headers.specs.Headers.{header, headerOf}
+use Rattle.headers.specs.Headers.{header, header_of}
 use Rattle.bit_moves.specs.Leaves.{splice}
 use Rattle.bit_moves.proofs.Splices.{splice-length}
 use Rattle.decoder.specs.declared.Summary.{Summary}
@@ -25,38 +25,38 @@ use Rattle.replacer.specs.Leaves.{Replaceable, Changes, Puts}
 module _ (m : ℕ) (row : List ℕ) (p n : ℕ) (h : p < length row) where
   -- the bit where the place begins, and the number there
   abbrev pub start : ℕ
-  start = length (rowBits m (take p row))
+  start = length (row_bits m (take p row))
 
   abbrev pub was : ℕ
   was = get_or row p 0
 
-  parts : rowBits m row ≡ rowBits m (take p row) ++ (codeword m was ++ rowBits m (drop (suc p) row))
-  unfolding rowBits flatten
-  parts = ap (rowBits m) (split_at row p 0 h) ∙ bits-append m (take p row) (was ∷ drop (suc p) row)
+  parts : row_bits m row ≡ row_bits m (take p row) ++ (codeword m was ++ row_bits m (drop (suc p) row))
+  unfolding row_bits flatten
+  parts = ap (row_bits m) (split_at row p 0 h) ∙ bits-append m (take p row) (was ∷ drop (suc p) row)
 
-  pub start-within : start + length (codeword m was) ≤ length (rowBits m row)
+  pub start-within : start + length (codeword m was) ≤ length (row_bits m row)
   start-within =
       omega (
         arith,
         ap length parts,
-        length-append (rowBits m (take p row)) (codeword m was ++ rowBits m (drop (suc p) row)),
-        length-append (codeword m was) (rowBits m (drop (suc p) row)),
+        length-append (row_bits m (take p row)) (codeword m was ++ row_bits m (drop (suc p) row)),
+        length-append (codeword m was) (row_bits m (drop (suc p) row)),
       )
 
-  pub splice-row : splice start (length (codeword m was)) (codeword m n) (rowBits m row) ≡ rowBits m (set row p n)
-  unfolding splice rowBits flatten
+  pub splice-row : splice start (length (codeword m was)) (codeword m n) (row_bits m row) ≡ row_bits m (set row p n)
+  unfolding splice row_bits flatten
   splice-row =
-      let a : List Bool = rowBits m (take p row) in
-      let c : List Bool = rowBits m (drop (suc p) row) in
+      let a : List Bool = row_bits m (take p row) in
+      let c : List Bool = row_bits m (drop (suc p) row) in
       let behind : drop (start + length (codeword m was)) (a ++ (codeword m was ++ c)) ≡ c =
       drop-append-add a (codeword m was ++ c) (length (codeword m was)) ∙ drop-append_seam (codeword m was) c in
       ap (λ (b : List Bool). take start b ++ (codeword m n ++ drop (start + length (codeword m was)) b)) parts
       ∙ ap₂ (λ (u v : List Bool). u ++ (codeword m n ++ v)) (take_at a (codeword m was ++ c) start refl) behind
-      ∙ sym (ap (rowBits m) (set_split row p n h) ∙ bits-append m (take p row) (n ∷ drop (suc p) row))
+      ∙ sym (ap (row_bits m) (set_split row p n h) ∙ bits-append m (take p row) (n ∷ drop (suc p) row))
 
-  pub changed-bits : length (rowBits m row) - length (codeword m was) + length (codeword m n) ≡ length (rowBits m (set row p n))
+  pub changed-bits : length (row_bits m row) - length (codeword m was) + length (codeword m n) ≡ length (row_bits m (set row p n))
   changed-bits =
-      omega (arith, ap length splice-row, splice-length start (length (codeword m was)) (codeword m n) (rowBits m row) start-within, start-within)
+      omega (arith, ap length splice-row, splice-length start (length (codeword m was)) (codeword m n) (row_bits m row) start-within, start-within)
 
   was-within : was ≤ sum row
   was-within = omega (arith, ap sum (split_at row p 0 h), sum-append (take p row) (was ∷ drop (suc p) row))
@@ -68,7 +68,7 @@ module _ (m : ℕ) (row : List ℕ) (p n : ℕ) (h : p < length row) where
       omega (arith, ap sum (split_at row p 0 h), sum-append a (was ∷ b), ap sum (set_split row p n h), sum-append a (n ∷ b))
 
   -- the header of the changed row
-  pub changed-header : header (length (rowBits m row) - length (codeword m was) + length (codeword m n)) (length row) (sum row - was + n) ≡ headerOf m (set row p n)
+  pub changed-header : header (length (row_bits m row) - length (codeword m was) + length (codeword m n)) (length row) (sum row - was + n) ≡ header_of m (set row p n)
   changed-header =
       let b = changed-bits in
       let c : length row ≡ length (set row p n) = sym (length-set row p n) in
@@ -87,9 +87,9 @@ module _ (m : ℕ) (row : List ℕ) (p n : ℕ) (h : p < length row) where
     told-number : told.total ≡ was
     told-number = ap (λ (f : Summary). f.total) t ∙ one-sum q e
 
-    pub replaceable : Order m → Legal maxNumber row → length row ≤ maxCount → Replaceable m told
+    pub replaceable : Order m → Legal max_number row → length row ≤ max_count → Replaceable m told
     replaceable o legal long =
-        let n = number_is maxNumber was (legal-at maxNumber row p legal h) in
+        let n = number_is max_number was (legal-at max_number row p legal h) in
         let bits = ap (λ (f : Summary). f.bits) t in
         let all = ap (λ (f : Summary). f.all) t in
         let code : length (codeword m told.total) ≡ length (codeword m was) = ap (λ (k : ℕ). length (codeword m k)) told-number in
@@ -97,9 +97,9 @@ module _ (m : ℕ) (row : List ℕ) (p n : ℕ) (h : p < length row) where
           some = omega (arith, n, told-number);
           legal = omega (arith, n, told-number);
           part = omega (arith, told-number, all, was-within);
-          codeword-part = omega (arith, code, bits, start-within);
+          codeword_part = omega (arith, code, bits, start-within);
           bits = omega (arith, bits, bits-few m row o legal, long);
-          total = omega (arith, all, sum-most maxNumber (omega arith) row legal, long);
+          total = omega (arith, all, sum-most max_number (omega arith) row legal, long);
         }
 
     module _ (x : Replacement) (c : Changes m told n x) where
@@ -112,9 +112,9 @@ module _ (m : ℕ) (row : List ℕ) (p n : ℕ) (h : p < length row) where
             word = c.word;
           }
 
-      pub puts-header : x.header ≡ headerOf m (set row p n)
+      pub puts-header : x.header ≡ header_of m (set row p n)
       puts-header =
-          let bits : told.bits - length (codeword m told.total) + length (codeword m n) ≡ length (rowBits m row) - length (codeword m was) + length (codeword m n) =
+          let bits : told.bits - length (codeword m told.total) + length (codeword m n) ≡ length (row_bits m row) - length (codeword m was) + length (codeword m n) =
           ap₂ (λ (b k : ℕ). b - length (codeword m k) + length (codeword m n)) (ap (λ (f : Summary). f.bits) t) told-number in
           let count : told.count ≡ length row = ap (λ (f : Summary). f.count) t in
           let total : told.all - told.total + n ≡ sum row - was + n = ap₂ (λ (a k : ℕ). a - k + n) (ap (λ (f : Summary). f.all) t) told-number in

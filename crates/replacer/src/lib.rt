@@ -1,7 +1,7 @@
 // Replacing a number of an encoding of order 2 to 6, in its buffer; and seeing what comes of it before that.
 ghost use Rattle.std.specs.Prelude.{◌≡◌, ◌≤◌};
-ghost use Rattle.calls.specs.Limits.{Order, maxNumber};
-ghost use Rattle.headers.specs.Headers.{encodingOutcome};
+ghost use Rattle.calls.specs.Limits.{Order, max_number};
+ghost use Rattle.headers.specs.Headers.{encoding_outcome};
 ghost use Rattle.replacer.specs.Replacing.{ReplacePromise, preview};
 ghost use Rattle.replacer.specs.Leaves.{Replaceable, Changes, Plans};
 
@@ -28,7 +28,7 @@ enum Planned {
 // The change of a row by what a scan tells of it and of the one number to be replaced. Requires: a legal order, numbers that are legal too, and that what is
 // told of the one is part of what is told of the row, which `plan` shows.
 fn change(order: usize, told: Summary, n: u64) -> Replacement
-    requires { Order order × (1 ≤ n) × (n ≤ maxNumber) × Replaceable order told }
+    requires { Order order × (1 ≤ n) × (n ≤ max_number) × Replaceable order told }
     ensures { Changes order told n result }
 {
     let firsts = fibonacci::first_numbers(order);
@@ -100,7 +100,7 @@ pub fn replace(order: usize, buf: &mut [u8], used: usize, place: usize, n: u32) 
 
 // The answer of the replacement, by its plan, and nothing is put.
 pub fn preview(order: usize, buf: &[u8], used: usize, place: usize, n: u32) -> EncodingAnswer
-    ensures { encodingOutcome result ≡ preview order buf.now used place n }
+    ensures { encoding_outcome result ≡ preview order buf.now used place n }
 {
     let planned = plan(order, buf, used, place, calls::wide(n));
     match planned {

@@ -15,14 +15,14 @@ use Rattle.calls.specs.declared.Refusal.{Refusal}
 use Rattle.calls.specs.declared.Refusal.TheVariants.{NoRoom}
 use Rattle.calls.specs.declared.CountAnswer.{CountAnswer}
 use Rattle.calls.specs.declared.CountAnswer.TheVariants.{Count, Refused}
-use Rattle.calls.specs.Calls.{Outcome, accepted, buffer, countOutcome}
-use Rattle.calls.specs.Limits.{is_order, maxNumber}
+use Rattle.calls.specs.Calls.{Outcome, accepted, buffer, count_outcome}
+use Rattle.calls.specs.Limits.{is_order, max_number}
 use Rattle.calls.specs.Reading.{contents, decode}
 use Rattle.calls.proofs.Checks.{told-accepted, told-refused}
-use Rattle.reading.specs.Reading.{fibonacci, read, readInto, ReadPromise}
+use Rattle.reading.specs.Reading.{fibonacci, read, read_into, ReadPromise}
 use Rattle.calls.specs.Leaves.{Begins, Scanned}
 use Rattle.reading.proofs.Decoding.{decode_is}
-use Rattle.table_decoder.specs.Reading.{decodeTable, readTable, readTableInto, ReadTablePromise, numberBytes, rowBytes, readBytes, readBytesInto, ReadBytesPromise}
+use Rattle.table_decoder.specs.Reading.{decode_table, read_table, read_table_into, ReadTablePromise, number_bytes, row_bytes, read_bytes, read_bytes_into, ReadBytesPromise}
 
 -- ## The chain of checks is that of reading with order 3
 
@@ -31,16 +31,16 @@ pub order-3 : is_order 3 ≡ true
 unfolding is_order
 order-3 = refl
 
-pub table-decode : (s : List ℕ) → decodeTable s ≡ decode (fibonacci 3) maxNumber s
-unfolding decodeTable decode contents
+pub table-decode : (s : List ℕ) → decode_table s ≡ decode (fibonacci 3) max_number s
+unfolding decode_table decode contents
 table-decode s = refl
 
-pub table-read : (s : List ℕ) (room : ℕ) → readTable s room ≡ read 3 s room
-unfolding readTable read
+pub table-read : (s : List ℕ) (room : ℕ) → read_table s room ≡ read 3 s room
+unfolding read_table read
 table-read s room = rw (order-3, table-decode s)
 
-pub table-into : (s before : List ℕ) → readTableInto s before ≡ readInto 3 s before
-unfolding readTableInto readInto
+pub table-into : (s before : List ℕ) → read_table_into s before ≡ read_into 3 s before
+unfolding read_table_into read_into
 table-into s before = ap (λ (o : Outcome ℕ). buffer o (numbers 3 (unpack s)) before) (table-read s (length before))
 
 pub table-promise : (s before : List ℕ) (a : CountAnswer) (after : List ℕ) → ReadPromise 3 s before a after → ReadTablePromise s before a after
@@ -48,22 +48,22 @@ table-promise s before a after p = (p.0 ∙ sym (table-read s (length before)), 
 
 -- ## Numbers as bytes
 
-pub bytes-long : (row : List ℕ) → length (rowBytes row) ≡ 4 * length row
-unfolding rowBytes flatten
+pub bytes-long : (row : List ℕ) → length (row_bytes row) ≡ 4 * length row
+unfolding row_bytes flatten
 bytes-long [] = refl
 bytes-long (n ∷ row) = omega (arith, bytes-long row)
 
-bytes-snoc : (row : List ℕ) (n : ℕ) → rowBytes (row ++ (n ∷ [])) ≡ rowBytes row ++ numberBytes n
-unfolding rowBytes flatten
-bytes-snoc row n = flatten-map-append numberBytes row (n ∷ [])
+bytes-snoc : (row : List ℕ) (n : ℕ) → row_bytes (row ++ (n ∷ [])) ≡ row_bytes row ++ number_bytes n
+unfolding row_bytes flatten
+bytes-snoc row n = flatten-map-append number_bytes row (n ∷ [])
 
 -- a loop that puts a row as bytes: one number more
 pub bytes-more : (row out : List ℕ) (i : ℕ) → i < length row → 4 * (i + 1) ≤ length out
-    → sets (rowBytes (take i row) ++ drop (4 * i) out) (4 * i) (numberBytes (get_or row i 0)) ≡ rowBytes (take (i + 1) row) ++ drop (4 * (i + 1)) out
+    → sets (row_bytes (take i row) ++ drop (4 * i) out) (4 * i) (number_bytes (get_or row i 0)) ≡ row_bytes (take (i + 1) row) ++ drop (4 * (i + 1)) out
 bytes-more row out i h k =
-    let front : List ℕ = rowBytes (take i row) in
+    let front : List ℕ = row_bytes (take i row) in
     let tail : List ℕ = drop (4 * i) out in
-    let new : List ℕ = numberBytes (get_or row i 0) in
+    let new : List ℕ = number_bytes (get_or row i 0) in
     let long : length front ≡ 4 * i = bytes-long (take i row) ∙ omega (arith, length-take i row) in
     let room : 4 * i + length new ≤ length (front ++ tail) = omega (arith, length-append front tail, length-drop (4 * i) out, long) in
     let next : 4 * i + 4 ≡ 4 * (i + 1) = omega arith in
@@ -72,32 +72,32 @@ bytes-more row out i h k =
     ∙ ap (λ (n : ℕ). drop n out) next in
     sets-eq new (front ++ tail) (4 * i) room
     ∙ ap₂ ◌++◌ (ap (λ (l : List ℕ). l ++ new) (take_at front tail (4 * i) long) ∙ sym (bytes-snoc (take i row) (get_or row i 0))
-    ∙ ap rowBytes (sym (take-suc row i 0 h) ∙ ap (λ (n : ℕ). take n row) (sym (add-one i)))) past
+    ∙ ap row_bytes (sym (take-suc row i 0 h) ∙ ap (λ (n : ℕ). take n row) (sym (add-one i)))) past
 
 -- ## Reading into bytes
 
-module _ (s list : List ℕ) (scanned : CountAnswer) (found : Scanned (decode (fibonacci 3) maxNumber s) scanned list) where
+module _ (s list : List ℕ) (scanned : CountAnswer) (found : Scanned (decode (fibonacci 3) max_number s) scanned list) where
   -- the scan found a row
   module _ (count : ℕ) (is : scanned ≡ Count count) where
-    row-found : (row : List ℕ) × (decode (fibonacci 3) maxNumber s ≡ accepted row) × (count ≡ length row) × (take (length row) list ≡ row)
+    row-found : (row : List ℕ) × (decode (fibonacci 3) max_number s ≡ accepted row) × (count ≡ length row) × (take (length row) list ≡ row)
     row-found =
-        let t = told-accepted (decode (fibonacci 3) maxNumber s) length count (sym (ap countOutcome is) ∙ found.0) in
+        let t = told-accepted (decode (fibonacci 3) max_number s) length count (sym (ap count_outcome is) ∙ found.0) in
         (t.0, t.1, t.2, subst (λ (d : Outcome (List ℕ)). Begins d list) t.1 found.1)
 
     pub row_fits : count ≤ 4096
-    row_fits = let r = row-found in omega (arith, (decode_is 3 maxNumber s r.0 r.1).long, r.2)
+    row_fits = let r = row-found in omega (arith, (decode_is 3 max_number s r.0 r.1).long, r.2)
 
     pub bytes-room : (before : List ℕ) → length before < 4 * count → ReadBytesPromise s before (Refused NoRoom) before
-    unfolding readBytes readBytesInto
+    unfolding read_bytes read_bytes_into
     bytes-room before h = let r = row-found in rw (table-decode s, r.1, lt-ltb (length before) (4 * length r.0) (omega (arith, r.2))) (refl, refl)
 
-    pub bytes-row : (before : List ℕ) → 4 * count ≤ length before → ReadBytesPromise s before (Count count) (rowBytes (take count list) ++ drop (4 * count) before)
-    unfolding readBytes readBytesInto
+    pub bytes-row : (before : List ℕ) → 4 * count ≤ length before → ReadBytesPromise s before (Count count) (row_bytes (take count list) ++ drop (4 * count) before)
+    unfolding read_bytes read_bytes_into
     bytes-row before h =
         let (row, e, n, b) = row-found in
-        let same : row ≡ numbers 3 (unpack s) = (decode_is 3 maxNumber s row e).is in
+        let same : row ≡ numbers 3 (unpack s) = (decode_is 3 max_number s row e).is in
         rw (n, b, table-decode s, e, le-ltb (length before) (4 * length row) (omega arith), ← same, bytes-long row) (refl, refl)
 
   pub bytes-refused : (before : List ℕ) (r : Refusal) → scanned ≡ Refused r → ReadBytesPromise s before scanned before
-  unfolding readBytes readBytesInto
-  bytes-refused before r is = rw (is, table-decode s, told-refused (decode (fibonacci 3) maxNumber s) length r (sym (ap countOutcome is) ∙ found.0)) (refl, refl)
+  unfolding read_bytes read_bytes_into
+  bytes-refused before r is = rw (is, table-decode s, told-refused (decode (fibonacci 3) max_number s) length r (sym (ap count_outcome is) ∙ found.0)) (refl, refl)

@@ -1,18 +1,18 @@
 // Reading an encoding of order 3 byte by byte, by a table of 768 rows.
 ghost use Rattle.std.specs.Prelude.{◌≡◌, ◌++◌, ◌+◌, ◌*◌, ◌≤◌, length, take, drop};
 ghost use Rattle.std.proofs.lemmas.List.Edits.{sets};
-ghost use Rattle.calls.specs.Limits.{maxNumber};
+ghost use Rattle.calls.specs.Limits.{max_number};
 ghost use Rattle.calls.specs.Reading.{decode};
 ghost use Rattle.reading.specs.Reading.{fibonacci};
 ghost use Rattle.table_scan.specs.Leaves.{ScanResult};
-ghost use Rattle.table_decoder.specs.Reading.{ReadTablePromise, numberBytes, rowBytes, ReadBytesPromise};
+ghost use Rattle.table_decoder.specs.Reading.{ReadTablePromise, number_bytes, row_bytes, ReadBytesPromise};
 
 use calls::{CountAnswer, Refusal};
 
 // The scan of an encoding, whose numbers go up to a limit: its checks, and how many numbers the row has. The row goes to a list of the caller's own.
 // Requires: a limit of at most 4,294,967,295, and the list's length, which `read` and `read_bytes` show.
 fn scan_into(s: &[u8], limit: u64, row: &mut [u32; table_scan::ROOM]) -> CountAnswer
-    requires { (limit ≤ maxNumber) × (length row.old ≡ 4098) }
+    requires { (limit ≤ max_number) × (length row.old ≡ 4098) }
     ensures { ScanResult (decode (fibonacci 3) limit s.now) result row.new }
 {
     if s.len() > calls::MAX_BYTES {
@@ -37,7 +37,7 @@ pub fn read(s: &[u8], out: &mut [u32]) -> CountAnswer
 // A number as four bytes from byte i on, the lowest first. Requires: room for them, which `put_row` shows.
 fn put_number(out: &mut [u8], i: usize, n: u32)
     requires { i + 4 ≤ length out.old }
-    ensures { out.new ≡ sets out.old i (numberBytes n) }
+    ensures { out.new ≡ sets out.old i (number_bytes n) }
 {
     out[i] = (n % 256) as u8;
     out[i + 1] = (n / 256 % 256) as u8;
@@ -48,7 +48,7 @@ fn put_number(out: &mut [u8], i: usize, n: u32)
 // The first n numbers of a list as bytes over those of a buffer. Requires: so many numbers, and room for their bytes, which `read_bytes` shows or checks.
 fn put_row(out: &mut [u8], row: &[u32], n: usize)
     requires { (n ≤ length row.now) × (4 * n ≤ length out.old) }
-    ensures { out.new ≡ rowBytes (take n row.now) ++ drop (4 * n) out.old }
+    ensures { out.new ≡ row_bytes (take n row.now) ++ drop (4 * n) out.old }
 {
     for i in 0..n {
         put_number(out, 4 * i, row[i]);

@@ -10,7 +10,7 @@ use borrow.Author.Tests.{le-leb, lt-leb}
 use Rattle.lists.proofs.Each.{all_append}
 use Rattle.bits.specs.Bits.{unpack}
 use Rattle.calls.specs.Calls.{refused}
-use Rattle.calls.specs.Limits.{is_number, Legal, maxCount}
+use Rattle.calls.specs.Limits.{is_number, Legal, max_count}
 use Rattle.calls.specs.Reading.{contents}
 use Rattle.calls.proofs.Checks.{is-number}
 use Rattle.calls.proofs.Finished.{illegal-above}
@@ -18,7 +18,7 @@ use Rattle.codes.specs.Rows.{Positive}
 use Rattle.fibonacci.specs.Encoding.{numbers}
 use Rattle.reading.specs.Reading.{fibonacci}
 use Rattle.calls.proofs.Decoding.{contents-many, contents-large, contents-past}
-use Rattle.table_scan.specs.Leaves.{Passes, faultAt}
+use Rattle.table_scan.specs.Leaves.{Passes, fault_at}
 
 module _ (limit x : ℕ) (pos : 1 ≤ x) where
   -- the first at fault, after so many that pass
@@ -48,12 +48,12 @@ module _ (limit x : ℕ) (pos : 1 ≤ x) where
 
 -- the numbers `done` have passed, and y does not
 refused-at : (limit : ℕ) (s done : List ℕ) (y : ℕ) (more : List ℕ) → Legal limit done → numbers 3 (unpack s) ≡ done ++ (y ∷ more) → limit < y
-    → contents (fibonacci 3) limit s ≡ refused (faultAt (length done))
+    → contents (fibonacci 3) limit s ≡ refused (fault_at (length done))
 refused-at limit s done y more a e bad =
-    elim (dec_le maxCount (length done)) [
-      | no h ↦ rw (lt-leb maxCount (length done) (omega arith), faultAt) (contents-large (fibonacci 3) limit s done a y more e (omega arith) bad)
+    elim (dec_le max_count (length done)) [
+      | no h ↦ rw (lt-leb max_count (length done) (omega arith), fault_at) (contents-large (fibonacci 3) limit s done a y more e (omega arith) bad)
       | yes h ↦
-          rw (le-leb maxCount (length done) h, faultAt) (elim (dec_le (length done) maxCount) [
+          rw (le-leb max_count (length done) h, fault_at) (elim (dec_le (length done) max_count) [
             | yes l ↦ contents-many (fibonacci 3) limit s done a y more e (omega arith)
             | no l ↦ contents-past (fibonacci 3) limit s done a (y ∷ more) e (omega arith)
           ])
@@ -61,7 +61,7 @@ refused-at limit s done y more a e bad =
 
 module _ (limit : ℕ) (s done : List ℕ) (legal : Legal limit done) (x : ℕ) (pos : 1 ≤ x) (ns later : List ℕ) (e : numbers 3 (unpack s) ≡ (done ++ (x ∷ ns)) ++ later) where
   pub refused-in : length ns ≤ 2 → Positive ns → (good : ℕ) → Passes (is_number limit x) limit (get_or ns 0 0) (get_or ns 1 0) good → good < 3
-      → contents (fibonacci 3) limit s ≡ refused (faultAt (length done + good))
+      → contents (fibonacci 3) limit s ≡ refused (fault_at (length done + good))
   refused-in h a good p l =
       let (xs, y, ys, cut, fine, n, bad) = fault limit x pos ns h a good p l in
       let long : length (done ++ xs) ≡ length done + good = omega (arith, length-append done xs) in

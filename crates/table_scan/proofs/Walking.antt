@@ -10,7 +10,7 @@ use borrow.Author.Tests.{ne_eqb}
 use lib.ListN.{length, get_or, take, length-append, length-map}
 use lib.Seq.{sets, length-sets}
 use Rattle.lists.proofs.Each.{all_append}
-use Rattle.bits.specs.Bits.{wordBits, unpack}
+use Rattle.bits.specs.Bits.{word_bits, unpack}
 use Rattle.bits.proofs.Bytes.{unpack-length}
 use Rattle.codes.specs.Rows.{Positive}
 use Rattle.codes.specs.Parse.{Parse, parsed, rest}
@@ -18,17 +18,17 @@ use Rattle.fibonacci.specs.Code.{ones, first, number}
 use Rattle.fibonacci.specs.Encoding.{parse, numbers}
 use Rattle.calls.specs.declared.Refusal.TheVariants.{TooManyCodewords, BadRest}
 use Rattle.calls.specs.Calls.{accepted, refused}
-use Rattle.calls.specs.Limits.{is_number, Legal, maxNumber, maxCount}
+use Rattle.calls.specs.Limits.{is_number, Legal, max_number, max_count}
 use Rattle.calls.specs.Reading.{contents}
 use Rattle.calls.proofs.Checks.{number_is, above-number}
 use Rattle.byte_table.specs.declared.Row.{Row}
-use Rattle.byte_table.specs.Leaves.{withoutTrailing, trailingOnes, parseByte, finishing, insideNumbers, value0, value1, value2, moved, rowOfParse, row_at, Small}
+use Rattle.byte_table.specs.Leaves.{without_trailing, trailing_ones, parse_byte, finishing, inside_numbers, value0, value1, value2, moved, row_of_parse, row_at, Small}
 use Rattle.calls.proofs.Decoding.{contents-many, contents-past}
 use Rattle.reading.specs.Reading.{fibonacci}
-use Rattle.reading.specs.Leaves.{NumberOf, isPadding}
+use Rattle.reading.specs.Leaves.{NumberOf, is_padding}
 use Rattle.reading.proofs.Reached.{Reached, reached-start, reached-open, reached-shut, reached-numbers, reached-end}
 use Rattle.reading.proofs.Checking.{padding-is, padding-not, contents-rest, contents-good, number-positive, coded-positive, numbered-legal, numbered-large}
-use Rattle.table_scan.specs.Leaves.{Passes, faultAt}
+use Rattle.table_scan.specs.Leaves.{Passes, fault_at}
 use Rattle.table_scan.proofs.Refusing.{none, refused-in}
 use Rattle.table_scan.proofs.Inside.{few-are, first_three, taken, open-parse, shut-parse}
 use Rattle.table_scan.proofs.Stepping.{without-settled, without-trailing, trailing-few, finishing-ones, row-after, bits-next, Pending, pending-none, pending-left, pending-more, pending-clamped, pending-near, pending-far}
@@ -46,7 +46,7 @@ pub record Walked (limit : ℕ) (s : List ℕ) (i : ℕ) (row : List ℕ) (count
   pub run : ℕ
   pub reached : Reached 3 (unpack s) (8 * i) words body run
   pub many : length words ≡ count
-  pub most : count ≤ maxCount
+  pub most : count ≤ max_count
   pub legal : Legal limit (map (number 3) words)
   pub stored : take count row ≡ map (number 3) words
   pub room : length row ≡ 4098
@@ -89,41 +89,41 @@ module _ {limit : ℕ} {s : List ℕ} {i : ℕ} {row : List ℕ} {count len val 
     pub byte : get_or s i 0 < 256
     pub row_is : r ≡ row_at (state + get_or s i 0)
     pub few : Small r
-    pub value-is : v ≡ moved len r.coef0 r.coef1 r.coef2
+    pub value_is : v ≡ moved len r.coef0 r.coef1 r.coef2
 
   module _ {r : Row} {v : ℕ} (step : Step r v) where
     x : List Bool
-    x = wordBits 8 (get_or s i 0)
+    x = word_bits 8 (get_or s i 0)
 
     p : Parse Bool
-    p = parseByte k.run (get_or s i 0)
+    p = parse_byte k.run (get_or s i 0)
 
     p-is : p ≡ parse 3 (ones k.run ++ x)
-    unfolding p x parseByte
+    unfolding p x parse_byte
     p-is = refl
 
-    row_of : r ≡ rowOfParse p
+    row_of : r ≡ row_of_parse p
     unfolding p
     row_of = step.row_is ∙ ap (λ (m : ℕ). row_at (m + get_or s i 0)) k.at ∙ row-after k.run (get_or s i 0) step.byte
 
     -- the pending bits with the row's
     grown : (q : List Bool) → r.len ≡ length q → r.coef0 ≡ value0 q → r.coef1 ≡ value1 q + value2 q → r.coef2 ≡ value1 q → Pending (k.body ++ q) (len + r.len) (val + v)
-    grown q l a b c = rw (step.value-is, l, a, b, c) (pending-more k.body len val q k.pending)
+    grown q l a b c = rw (step.value_is, l, a, b, c) (pending-more k.body len val q k.pending)
 
     -- no codeword ends
     pub walked-open : r.count ≡ 0 → (len' : ℕ) → (len + r.len < 37 → len' ≡ len + r.len) → (37 ≤ len + r.len → len' ≡ 37) → v < 2 ^ 43
         → Walked limit s (i + 1) row count len' (val + v) (256 * r.rest.ones)
-    unfolding rowOfParse finishing
+    unfolding row_of_parse finishing
     walked-open none len' short long low =
         let e : p ≡ parsed [] (rest p) = open-parse p (sym (ap (λ (r : Row). r.count) row_of) ∙ none) in
-        let f : r ≡ rowOfParse (parsed [] (rest p)) = row_of ∙ ap rowOfParse e in
-        let q : List Bool = withoutTrailing (rest p) in
+        let f : r ≡ row_of_parse (parsed [] (rest p)) = row_of ∙ ap row_of_parse e in
+        let q : List Bool = without_trailing (rest p) in
         record {
           words = k.words;
           body = k.body ++ q;
-          run = trailingOnes (rest p);
+          run = trailing_ones (rest p);
           reached =
-              reached-open k.reached x (8 * (i + 1)) (unfold x in bits-next s i step.more) q (trailingOnes (rest p)) (without-settled (rest p)) (trailing-few _ (rest p) [] (sym p-is ∙ e))
+              reached-open k.reached x (8 * (i + 1)) (unfold x in bits-next s i step.more) q (trailing_ones (rest p)) (without-settled (rest p)) (trailing-few _ (rest p) [] (sym p-is ∙ e))
               (sym p-is ∙ e ∙ ap (parsed []) (without-trailing (rest p)));
           many = k.many;
           most = k.most;
@@ -141,7 +141,7 @@ module _ {limit : ℕ} {s : List ℕ} {i : ℕ} {row : List ℕ} {count len val 
     -- a codeword ends
     module _ (some : r.count ≡ 0 → ⊥) where
       cut : (w : List Bool) × (ws : List (List Bool)) × (p ≡ parsed (w ∷ ws) (rest p))
-      cut = shut-parse p (λ e. some (ap (λ (r : Row). r.count) row_of ∙ (unfold rowOfParse in e)))
+      cut = shut-parse p (λ e. some (ap (λ (r : Row). r.count) row_of ∙ (unfold row_of_parse in e)))
 
       abbrev q : List Bool
       q = finishing (parsed (cut.0 ∷ cut.1) (rest p))
@@ -153,43 +153,43 @@ module _ {limit : ℕ} {s : List ℕ} {i : ℕ} {row : List ℕ} {count len val 
       abbrev within : List ℕ
       within = map (number 3) cut.1
 
-      row_cut : r ≡ rowOfParse (parsed (cut.0 ∷ cut.1) (rest p))
-      row_cut = row_of ∙ ap rowOfParse cut.2
+      row_cut : r ≡ row_of_parse (parsed (cut.0 ∷ cut.1) (rest p))
+      row_cut = row_of ∙ ap row_of_parse cut.2
 
       parse-cut : parse 3 (ones k.run ++ x) ≡ parsed (cut.0 ∷ cut.1) (rest p)
       parse-cut = sym p-is ∙ cut.2
 
-      reached-next : Reached 3 (unpack s) (8 * (i + 1)) (k.words ++ (ended ∷ cut.1)) (withoutTrailing (rest p)) (trailingOnes (rest p))
+      reached-next : Reached 3 (unpack s) (8 * (i + 1)) (k.words ++ (ended ∷ cut.1)) (without_trailing (rest p)) (trailing_ones (rest p))
       reached-next =
-          reached-shut k.reached x (8 * (i + 1)) (unfold x in bits-next s i step.more) (withoutTrailing (rest p)) (trailingOnes (rest p)) (without-settled (rest p)) (trailing-few _ (rest p) _ parse-cut)
+          reached-shut k.reached x (8 * (i + 1)) (unfold x in bits-next s i step.more) (without_trailing (rest p)) (trailing_ones (rest p)) (without-settled (rest p)) (trailing-few _ (rest p) _ parse-cut)
           cut.0 cut.1 (parse-cut ∙ ap (parsed (cut.0 ∷ cut.1)) (without-trailing (rest p)))
 
       ended_is : ended ≡ (k.body ++ q) ++ ones 3
       ended_is = ap (λ (w : List Bool). k.body ++ w) (finishing-ones _ cut.0 (rest p) cut.1 parse-cut) ∙ sym (append_assoc k.body q (ones 3))
 
       pending-ended : Pending (k.body ++ q) (len + r.len) (val + v)
-      unfolding rowOfParse
+      unfolding row_of_parse
       pending-ended = grown q (ap (λ (r : Row). r.len) row_cut) (ap (λ (r : Row). r.coef0) row_cut) (ap (λ (r : Row). r.coef1) row_cut) (ap (λ (r : Row). r.coef2) row_cut)
 
-      ended-near : first 3 (len + r.len) ≤ maxNumber → number 3 ended ≡ first 3 (len + r.len) + (val + v)
+      ended-near : first 3 (len + r.len) ≤ max_number → number 3 ended ≡ first 3 (len + r.len) + (val + v)
       ended-near g = ap (number 3) ended_is ∙ pending-near _ _ _ pending-ended g
 
-      ended-far : maxNumber < first 3 (len + r.len) → maxNumber < number 3 ended
+      ended-far : max_number < first 3 (len + r.len) → max_number < number 3 ended
       ended-far g = rw ended_is (pending-far _ _ _ pending-ended g)
 
       count-is : r.count ≡ suc (length within)
-      unfolding rowOfParse
+      unfolding row_of_parse
       count-is = ap (λ (r : Row). r.count) row_cut ∙ ap suc (sym (length-map cut.1 (number 3)))
 
       within-few : length within ≤ 2
       within-few = omega (arith, count-is, step.few.count)
 
       second_is : r.second ≡ get_or within 0 0
-      unfolding rowOfParse insideNumbers
+      unfolding row_of_parse inside_numbers
       second_is = ap (λ (r : Row). r.second) row_cut
 
       third-is : r.third ≡ get_or within 1 0
-      unfolding rowOfParse insideNumbers
+      unfolding row_of_parse inside_numbers
       third-is = ap (λ (r : Row). r.third) row_cut
 
       within-pos : Positive within
@@ -205,13 +205,13 @@ module _ {limit : ℕ} {s : List ℕ} {i : ℕ} {row : List ℕ} {count len val 
       all-numbers = let t = reached-numbers reached-next in (t.0, t.1 ∙ ap (λ (l : List ℕ). l ++ t.0) next-numbers)
 
       -- it is one too many
-      pub walked_many : maxCount ≤ count → contents (fibonacci 3) limit s ≡ refused TooManyCodewords
+      pub walked_many : max_count ≤ count → contents (fibonacci 3) limit s ≡ refused TooManyCodewords
       walked_many f =
           contents-many (fibonacci 3) limit s done k.legal (number 3 ended) (within ++ all-numbers.0) (all-numbers.1 ∙ append_assoc done (number 3 ended ∷ within) all-numbers.0)
           (omega (arith, done-long, k.most))
 
       -- n was found for its number, and of the numbers that end so many pass
-      module _ (n : ℕ) (is : NumberOf 3 (len + r.len) (val + v) n) (top : limit ≤ maxNumber) (good : ℕ) (passes : Passes (is_number limit n) limit r.second r.third good) where
+      module _ (n : ℕ) (is : NumberOf 3 (len + r.len) (val + v) n) (top : limit ≤ max_number) (good : ℕ) (passes : Passes (is_number limit n) limit r.second r.third good) where
         -- n is legal where the number is
         alike : is_number limit n ≡ is_number limit (number 3 ended)
         alike = by (is_number limit n) refl
@@ -223,10 +223,10 @@ module _ {limit : ℕ} {s : List ℕ} {i : ℕ} {row : List ℕ} {count len val 
         passes-within : Passes (is_number limit (number 3 ended)) limit (get_or within 0 0) (get_or within 1 0) good
         passes-within = rw (← alike, ← second_is, ← third-is) passes
 
-        pub walked-fault : good < 3 → contents (fibonacci 3) limit s ≡ refused (faultAt (count + good))
+        pub walked-fault : good < 3 → contents (fibonacci 3) limit s ≡ refused (fault_at (count + good))
         walked-fault l =
             refused-in limit s done k.legal (number 3 ended) ended-pos within all-numbers.0 all-numbers.1 within-few within-pos good passes-within l
-            ∙ ap (λ (c : ℕ). refused (faultAt (c + good))) done-long
+            ∙ ap (λ (c : ℕ). refused (fault_at (c + good))) done-long
 
         -- all pass
         module _ (all : 3 ≤ good) where
@@ -236,7 +236,7 @@ module _ {limit : ℕ} {s : List ℕ} {i : ℕ} {row : List ℕ} {count len val 
           n-is : n ≡ number 3 ended
           n-is = numbered-legal 3 _ _ n is (number 3 ended) ended-near ended-far limit top (alike ∙ legal.0)
 
-          pub walked-number : n ≤ maxNumber
+          pub walked-number : n ≤ max_number
           walked-number = omega (arith, (number_is limit n (alike ∙ legal.0)).1)
 
           next-legal : Legal limit (done ++ (number 3 ended ∷ within))
@@ -246,7 +246,7 @@ module _ {limit : ℕ} {s : List ℕ} {i : ℕ} {row : List ℕ} {count len val 
           next-long = omega (arith, length-append done (number 3 ended ∷ within), done-long, count-is)
 
           -- those inside the byte are too many
-          pub walked-past : maxCount < count + r.count → contents (fibonacci 3) limit s ≡ refused TooManyCodewords
+          pub walked-past : max_count < count + r.count → contents (fibonacci 3) limit s ≡ refused TooManyCodewords
           walked-past f = contents-past (fibonacci 3) limit s (done ++ (number 3 ended ∷ within)) next-legal all-numbers.0 all-numbers.1 (omega (arith, next-long))
 
           abbrev new : List ℕ
@@ -255,20 +255,20 @@ module _ {limit : ℕ} {s : List ℕ} {i : ℕ} {row : List ℕ} {count len val 
           pub walked-room : length (sets row count new) ≡ 4098
           walked-room = length-sets row count new ∙ k.room
 
-          kept-is : count + r.count ≤ maxCount → take (count + r.count) (sets row count new) ≡ done ++ (number 3 ended ∷ within)
+          kept-is : count + r.count ≤ max_count → take (count + r.count) (sets row count new) ≡ done ++ (number 3 ended ∷ within)
           kept-is f =
               taken row new count r.count (omega (arith, k.room, count-is)) step.few.count
               ∙ ap₂ ◌++◌ k.stored (ap (λ (c : ℕ). take c new) count-is
               ∙ first_three n-is second_is third-is (length within) ∙ ap (λ (l : List ℕ). number 3 ended ∷ l) (few-are within within-few))
 
-          pub walked-shut : count + r.count ≤ maxCount
+          pub walked-shut : count + r.count ≤ max_count
               → Walked limit s (i + 1) (sets row count (n ∷ r.second ∷ r.third ∷ [])) (count + r.count) r.rest.len r.rest.value (256 * r.rest.ones)
-          unfolding rowOfParse
+          unfolding row_of_parse
           walked-shut f =
               record {
                 words = k.words ++ (ended ∷ cut.1);
-                body = withoutTrailing (rest p);
-                run = trailingOnes (rest p);
+                body = without_trailing (rest p);
+                run = trailing_ones (rest p);
                 reached = reached-next;
                 many = sym (length-map (k.words ++ (ended ∷ cut.1)) (number 3)) ∙ ap length next-numbers ∙ next-long;
                 most = f;
@@ -276,11 +276,11 @@ module _ {limit : ℕ} {s : List ℕ} {i : ℕ} {row : List ℕ} {count len val 
                 stored = kept-is f ∙ sym next-numbers;
                 room = walked-room;
                 pending =
-                    subst (λ (l : ℕ). Pending (withoutTrailing (rest p)) l r.rest.value) (sym (ap (λ (r : Row). r.rest.len) row_cut))
-                    (subst (λ (v : ℕ). Pending (withoutTrailing (rest p)) (length (withoutTrailing (rest p))) v) (sym (ap (λ (r : Row). r.rest.value) row_cut))
-                    (pending-left (withoutTrailing (rest p)) (omega (arith, ap (λ (r : Row). r.rest.len) row_cut, step.few.rest-len))));
-                clamped = omega (arith, step.few.rest-len);
-                small = omega (arith, step.few.rest-value);
+                    subst (λ (l : ℕ). Pending (without_trailing (rest p)) l r.rest.value) (sym (ap (λ (r : Row). r.rest.len) row_cut))
+                    (subst (λ (v : ℕ). Pending (without_trailing (rest p)) (length (without_trailing (rest p))) v) (sym (ap (λ (r : Row). r.rest.value) row_cut))
+                    (pending-left (without_trailing (rest p)) (omega (arith, ap (λ (r : Row). r.rest.len) row_cut, step.few.rest_len))));
+                clamped = omega (arith, step.few.rest_len);
+                small = omega (arith, step.few.rest_value);
                 at = ap (λ (r : Row). 256 * r.rest.ones) row_cut;
               }
 
@@ -293,15 +293,15 @@ module _ {limit : ℕ} {s : List ℕ} {i : ℕ} {row : List ℕ} {count len val 
     far l = elim (dec_le 37 len) [ yes f ↦ omega (arith, k.pending.far f) | no f ↦ omega (arith, (k.pending.near (omega arith)).0) ]
 
     -- there are no ones exactly where the state is 0
-    state-none : isPadding len val state ≡ isPadding len val k.run
+    state-none : is_padding len val state ≡ is_padding len val k.run
     state-none = ap (λ (t : Bool). ltb len 8 && (eqb val 0 && t)) (state-zero k.run k.at)
 
-    pub walked-padding : isPadding len val state ≡ true → (contents (fibonacci 3) limit s ≡ accepted done) × (take count row ≡ done) × (length done ≡ count)
+    pub walked-padding : is_padding len val state ≡ true → (contents (fibonacci 3) limit s ≡ accepted done) × (take count row ≡ done) × (length done ≡ count)
     walked-padding e =
         let t = padding-is 3 k.body len val k.run (omega arith) (λ l. k.pending.near (omega arith)) far (sym state-none ∙ e) in
         (contents-good limit 3 s done k.legal k.words _ rest-is refl (omega (arith, done-long, k.most)) t.0 t.1, k.stored, done-long)
 
-    pub walked-rest : isPadding len val state ≡ false → contents (fibonacci 3) limit s ≡ refused BadRest
+    pub walked-rest : is_padding len val state ≡ false → contents (fibonacci 3) limit s ≡ refused BadRest
     walked-rest e =
         contents-rest limit 3 s done k.legal k.words _ rest-is refl (omega (arith, done-long, k.most))
         (padding-not 3 k.body len val k.run (omega arith) (λ l. k.pending.near (omega arith)) far (sym state-none ∙ e))

@@ -5,21 +5,21 @@ use Rattle.calls.specs.declared.Refusal.{Refusal}
 use Rattle.calls.specs.declared.Refusal.TheVariants.{TooManyCodewords, TooLarge}
 use Rattle.calls.specs.declared.CountAnswer.{CountAnswer}
 use Rattle.calls.specs.Calls.{Outcome}
-use Rattle.calls.specs.Limits.{maxNumber, maxCount, maxBytes}
-use Rattle.byte_table.specs.Leaves.{headWords, tailWords, positionWords}
+use Rattle.calls.specs.Limits.{max_number, max_count, max_bytes}
+use Rattle.byte_table.specs.Leaves.{head_words, tail_words, position_words}
 use Rattle.calls.specs.Leaves.{Scanned}
 
 -- The tables that are handed down
 pub record ByteTables (heads tails positions firsts : List ℕ) : Type 0 where
-  pub heads-are : heads ≡ headWords
-  pub tails-are : tails ≡ tailWords
-  pub positions-are : positions ≡ positionWords
-  pub firsts-are : Firsts 3 firsts
+  pub heads_are : heads ≡ head_words
+  pub tails_are : tails ≡ tail_words
+  pub positions_are : positions ≡ position_words
+  pub firsts_are : Firsts 3 firsts
 
 -- What the scan is given: the tables, an encoding that is not too long, a limit, and a list with room for all that it may store
 abbrev pub ScanInput : List ℕ → List ℕ → List ℕ → List ℕ → List ℕ → ℕ → List ℕ → Type 0
 ScanInput heads tails positions firsts s limit list =
-    ByteTables heads tails positions firsts × (length s ≤ maxBytes) × (limit ≤ maxNumber) × (length list ≡ 4098)
+    ByteTables heads tails positions firsts × (length s ≤ max_bytes) × (limit ≤ max_number) × (length list ≡ 4098)
 
 -- What it leaves: its answer, its list, and that as long as it was
 abbrev pub ScanResult : Outcome (List ℕ) → CountAnswer → List ℕ → Type 0
@@ -34,5 +34,5 @@ Passes legal limit second third (suc (suc zero)) = (legal ≡ true) × (second �
 Passes legal limit second third (suc (suc (suc more))) = (legal ≡ true) × (second ≤ limit) × (third ≤ limit)
 
 -- Why a codeword is refused whose number fails its check, by its place
-abbrev pub faultAt : ℕ → Refusal
-faultAt place = elim (leb maxCount place) [ true ↦ TooManyCodewords | false ↦ TooLarge place ]
+abbrev pub fault_at : ℕ → Refusal
+fault_at place = elim (leb max_count place) [ true ↦ TooManyCodewords | false ↦ TooLarge place ]

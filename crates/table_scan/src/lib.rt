@@ -1,10 +1,10 @@
 // An encoding of order 3 scanned byte by byte, by a table of 768 rows.
 ghost use Rattle.std.specs.Prelude.{◌≡◌, ◌∷◌, [], ◌≤◌, ◌<◌, length};
 ghost use Rattle.std.proofs.lemmas.List.Edits.{sets};
-ghost use Rattle.calls.specs.Limits.{is_number, maxNumber};
+ghost use Rattle.calls.specs.Limits.{is_number, max_number};
 ghost use Rattle.calls.specs.Reading.{contents};
 ghost use Rattle.reading.specs.Reading.{fibonacci};
-ghost use Rattle.table_scan.specs.Leaves.{ScanInput, ScanResult, Passes, faultAt};
+ghost use Rattle.table_scan.specs.Leaves.{ScanInput, ScanResult, Passes, fault_at};
 
 use calls::{CountAnswer, Refusal};
 
@@ -13,7 +13,7 @@ pub const ROOM: usize = 4098;
 
 // Three numbers from element i on. Requires: a place of a row, and a legal first number, which `walk` shows.
 fn put(row: &mut [u32; ROOM], i: usize, first: u64, second: u32, third: u32)
-    requires { (i < 4096) × (length row.old ≡ 4098) × (first ≤ maxNumber) }
+    requires { (i < 4096) × (length row.old ≡ 4098) × (first ≤ max_number) }
     ensures { row.new ≡ sets row.old i (first ∷ second ∷ third ∷ []) }
 {
     row[i] = first as u32;
@@ -46,7 +46,7 @@ fn passing(first: u64, second: u32, third: u32, limit: u64) -> usize
 
 // Why a codeword is refused whose number fails its check, by its place.
 fn fault(place: usize) -> Refusal
-    ensures { result ≡ faultAt place }
+    ensures { result ≡ fault_at place }
 {
     if place >= calls::MAX_COUNT {
         Refusal::TooManyCodewords

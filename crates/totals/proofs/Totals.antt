@@ -9,20 +9,20 @@ use lib.Seq.{slice, take_all}
 use Rattle.lists.specs.Lists.{sum}
 use Rattle.fibonacci.proofs.Sums.{slice-most}
 use Rattle.calls.specs.Calls.{accepted}
-use Rattle.calls.specs.Limits.{maxNumber, maxCount}
+use Rattle.calls.specs.Limits.{max_number, max_count}
 use Rattle.calls.specs.Reading.{decode}
 use Rattle.reading.specs.Reading.{fibonacci}
 use Rattle.reading.proofs.Decoding.{decode_is}
 
-module _ (m : ℕ) (s row : List ℕ) (e : decode (fibonacci m) maxNumber s ≡ accepted row) where
+module _ (m : ℕ) (s row : List ℕ) (e : decode (fibonacci m) max_number s ≡ accepted row) where
   -- no sum is larger than 4,096 times the largest number: that of any span, and that of the row
-  pub span-most : (a b : ℕ) → sum (slice a b row) ≤ maxNumber * maxCount
-  span-most a b =
-      let d = decode_is m maxNumber s row e in
-      omega (arith, slice-most maxNumber (omega arith) row a b d.legal, d.long)
+  pub span_most : (a b : ℕ) → sum (slice a b row) ≤ max_number * max_count
+  span_most a b =
+      let d = decode_is m max_number s row e in
+      omega (arith, slice-most max_number (omega arith) row a b d.legal, d.long)
 
-  pub row-most : sum row ≤ maxNumber * maxCount
-  row-most = omega (arith, span-most 0 (length row), ap sum (take_all (length row) row (omega arith)))
+  pub row-most : sum row ≤ max_number * max_count
+  row-most = omega (arith, span_most 0 (length row), ap sum (take_all (length row) row (omega arith)))
 
 -- r repeats of a total, each of which shares a part of it with the next
 module _ (r total shared : ℕ) (some : 1 ≤ r) (h : shared ≤ total) where
@@ -41,5 +41,5 @@ module _ (r total shared : ℕ) (some : 1 ≤ r) (h : shared ≤ total) where
   repeats-less = omega (arith, repeats-all)
 
   -- and nothing that is computed is above the largest there is
-  pub repeats-most : r ≤ 10000 → total ≤ maxNumber * maxCount → total + (r - 1) * (total - shared) ≤ 10000 * (maxNumber * maxCount)
+  pub repeats-most : r ≤ 10000 → total ≤ max_number * max_count → total + (r - 1) * (total - shared) ≤ 10000 * (max_number * max_count)
   repeats-most few small = omega (arith, repeats-all, mul-le-mul few small)

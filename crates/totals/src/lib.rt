@@ -1,6 +1,6 @@
 // Totals of the numbers of an encoding of order 2 to 6: of a span, and of the row repeated.
 ghost use Rattle.std.specs.Prelude.{◌≡◌};
-ghost use Rattle.totals.specs.Totals.{total, repeatedTotal, totalOutcome};
+ghost use Rattle.totals.specs.Totals.{total, repeated_total, total_outcome};
 
 #[derive(Drop)]
 pub enum TotalAnswer {
@@ -10,7 +10,7 @@ pub enum TotalAnswer {
 
 // The total of the numbers from place a up to but without place b.
 pub fn total(order: usize, s: &[u8], a: usize, b: usize) -> TotalAnswer
-    ensures { totalOutcome result ≡ total order s.now a b }
+    ensures { total_outcome result ≡ total order s.now a b }
 {
     if !calls::is_order(order) {
         return TotalAnswer::Refused(calls::Refusal::BadOrder);
@@ -32,7 +32,7 @@ pub fn total(order: usize, s: &[u8], a: usize, b: usize) -> TotalAnswer
 
 // The total of the row repeated so many times, where what each repeat shares with the next counts once.
 pub fn repeated_total(order: usize, s: &[u8], repeats: u64, shared: u64) -> TotalAnswer
-    ensures { totalOutcome result ≡ repeatedTotal order s.now repeats shared }
+    ensures { total_outcome result ≡ repeated_total order s.now repeats shared }
 {
     if !calls::is_order(order) {
         return TotalAnswer::Refused(calls::Refusal::BadOrder);

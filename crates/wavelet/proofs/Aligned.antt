@@ -7,24 +7,24 @@ use native.Mathlib.Omega.{arith}
 use lib.ListN.{length, get_or, replicate}
 use lib.Pow.{shl_lt, shl_exact}
 use Rattle.lists.proofs.Lists.{filled-default}
-use Rattle.bits.specs.Bits.{wordBits}
+use Rattle.bits.specs.Bits.{word_bits}
 use Rattle.bits.proofs.Words.{words-at, words-padded}
 use Rattle.fibonacci.specs.Code.{size, codeword}
 use Rattle.calls.specs.Limits.{Order}
 use Rattle.fibonacci.proofs.Lookup.{codeword-bits}
 use Rattle.fibonacci.proofs.Numbers.{codeword-size}
-use Rattle.wavelet.specs.Questions.{maxAlphabet}
+use Rattle.wavelet.specs.Questions.{max_alphabet}
 use Rattle.wavelet.specs.Leaves.{Aligned}
 use Rattle.wavelet.proofs.Cursors.{shallow}
 
 -- how long the codewords of the alphabet are
-pub aligned-short : (m n k : ℕ) → Order m → 1 ≤ n → n ≤ maxAlphabet → k ≡ length (codeword m n) → k ≤ 22
+pub aligned-short : (m n k : ℕ) → Order m → 1 ≤ n → n ≤ max_alphabet → k ≡ length (codeword m n) → k ≤ 22
 aligned-short m n k o a b e =
     let d = size m n n 0 in
     let short : d ≤ 16 = shallow m d o (omega (arith, (codeword-size m n (omega arith) a).0)) in
     omega (arith, codeword-bits m n)
 
-module _ (m n k w : ℕ) (long : k ≤ 32) (bits : wordBits k w ≡ codeword m n) (small : w < 2 ^ k) where
+module _ (m n k w : ℕ) (long : k ≤ 32) (bits : word_bits k w ≡ codeword m n) (small : w < 2 ^ k) where
   -- the word, shifted to the top
   shifted : w * 2 ^ (32 - k) % 2 ^ 64 ≡ w * 2 ^ (32 - k)
   shifted = shl_exact k (32 - k) 64 small (omega arith)
@@ -38,6 +38,6 @@ module _ (m n k w : ℕ) (long : k ≤ 32) (bits : wordBits k w ≡ codeword m n
   aligned-is s h =
       let e : k + (32 - k) ≡ 32 = omega arith in
       let x = w * 2 ^ (32 - k) in
-      let all : wordBits 32 x ≡ codeword m n ++ replicate (32 - k) false =
-      ap (λ (j : ℕ). wordBits j x) (sym e) ∙ words-padded k (32 - k) w ∙ ap (λ (l : List Bool). l ++ replicate (32 - k) false) bits in
+      let all : word_bits 32 x ≡ codeword m n ++ replicate (32 - k) false =
+      ap (λ (j : ℕ). word_bits j x) (sym e) ∙ words-padded k (32 - k) w ∙ ap (λ (l : List Bool). l ++ replicate (32 - k) false) bits in
       rw shifted (sym (words-at 32 x s h) ∙ ap (λ (l : List Bool). get_or l s false) all ∙ filled-default (codeword m n) (32 - k) s false)

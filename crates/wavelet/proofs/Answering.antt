@@ -13,11 +13,11 @@ use Rattle.calls.proofs.Checks.{both, order_is, number_is, not-both, refused-sam
 use Rattle.calls.specs.declared.Refusal.{Refusal}
 use Rattle.calls.specs.declared.Refusal.TheVariants.{BadOrder, TooManyNumbers, BadAlphabet, NotAnIndex}
 use Rattle.calls.specs.Calls.{Outcome, accepted, refused, check}
-use Rattle.calls.specs.Limits.{is_order, is_number, maxCount, Order}
+use Rattle.calls.specs.Limits.{is_order, is_number, max_count, Order}
 use Rattle.wavelet.specs.Nodes.{tree}
-use Rattle.wavelet.specs.Bitmaps.{need, exact, isIndex}
-use Rattle.wavelet.specs.Questions.{maxAlphabet, checkTree, ask}
-use Rattle.wavelet.specs.Leaves.{Passed, CursorAt, IsCursor, ends, Ends, Aligned, maxIndexBytes, Root}
+use Rattle.wavelet.specs.Bitmaps.{need, exact, is_index}
+use Rattle.wavelet.specs.Questions.{max_alphabet, check_tree, ask}
+use Rattle.wavelet.specs.Leaves.{Passed, CursorAt, IsCursor, ends, Ends, Aligned, max_index_bytes, Root}
 use Rattle.wavelet.specs.declared.Cursor.{Cursor}
 use Rattle.wavelet.proofs.Pruned.{cursor-root}
 use Rattle.wavelet.proofs.Depth.{tree-need}
@@ -35,23 +35,23 @@ refuses r false false true v next e = refused-same e
 refuses r false false false v next e = absurd (not-both e)
 
 module _ (m N k : ℕ) where
-  pub tree-accepted : {A : Type 0} {next : Outcome A} {x : A} → checkTree m N k next ≡ accepted x → Passed m N k × (next ≡ accepted x)
+  pub tree-accepted : {A : Type 0} {next : Outcome A} {x : A} → check_tree m N k next ≡ accepted x → Passed m N k × (next ≡ accepted x)
   tree-accepted {x = x} e =
       let o = check-passed BadOrder (not (is_order m)) _ x e in
-      let a = check-passed BadAlphabet (not (is_number maxAlphabet N)) _ x o.1 in
-      let c = check-passed TooManyNumbers (ltb maxCount k) _ x a.1 in
+      let a = check-passed BadAlphabet (not (is_number max_alphabet N)) _ x o.1 in
+      let c = check-passed TooManyNumbers (ltb max_count k) _ x a.1 in
       (record { order = not-false _ o.0; alphabet = not-false _ a.0; count = ltb-false _ _ c.0 }, c.1)
 
-  pub tree-passed : {x : ℕ} → accepted x ≡ checkTree m N k (accepted N) → Passed m N k
+  pub tree-passed : {x : ℕ} → accepted x ≡ check_tree m N k (accepted N) → Passed m N k
   tree-passed e = (tree-accepted (sym e)).0
 
   -- what comes after them decides
-  pub tree-legal : {A : Type 0} → Passed m N k → (next : Outcome A) → checkTree m N k next ≡ next
-  tree-legal p next = simp (p.order, p.alphabet, le-ltb maxCount k p.count)
+  pub tree-legal : {A : Type 0} → Passed m N k → (next : Outcome A) → check_tree m N k next ≡ next
+  tree-legal p next = simp (p.order, p.alphabet, le-ltb max_count k p.count)
 
   -- or does not matter
-  pub tree-refused : {A : Type 0} {r : Refusal} → refused r ≡ checkTree m N k (accepted N) → (next : Outcome A) → refused r ≡ checkTree m N k next
-  tree-refused {r = r} e next = refuses r (not (is_order m)) (not (is_number maxAlphabet N)) (ltb maxCount k) N next e
+  pub tree-refused : {A : Type 0} {r : Refusal} → refused r ≡ check_tree m N k (accepted N) → (next : Outcome A) → refused r ≡ check_tree m N k next
+  tree-refused {r = r} e next = refuses r (not (is_order m)) (not (is_number max_alphabet N)) (ltb max_count k) N next e
 
 -- ## Whether the bytes are an index
 
@@ -59,8 +59,8 @@ module _ {m N k : ℕ} (p : Passed m N k) where
   pub legal-order : Order m
   legal-order = order_is m p.order
 
-  pub legal-alphabet : (1 ≤ N) × (N ≤ maxAlphabet)
-  legal-alphabet = number_is maxAlphabet N p.alphabet
+  pub legal-alphabet : (1 ≤ N) × (N ≤ max_alphabet)
+  legal-alphabet = number_is max_alphabet N p.alphabet
 
   -- where a walk begins
   pub at-root : {v : Cursor} → Root v → CursorAt m N (m + N) [] v
@@ -71,8 +71,8 @@ module _ {m N k : ℕ} (p : Passed m N k) where
 
   module _ (s : List ℕ) where
     -- too many bytes
-    pub index-long : maxIndexBytes < length s → isIndex m N k s ≡ false
-    unfolding isIndex
+    pub index-long : max_index_bytes < length s → is_index m N k s ≡ false
+    unfolding is_index
     index-long h =
         let most = tree-need m N k (unpack s) legal-order legal-alphabet.0 legal-alphabet.1 in
         simp (ne_eqb (byte_count (need (tree m N) k (unpack s))) (length s) (λ e. omega (arith, most, p.count)))
@@ -83,21 +83,21 @@ module _ {m N k : ℕ} (p : Passed m N k) where
       unfolding ends tree
       ends-need = walked (m + N) [] (at-root root) ∙ omega arith
 
-      pub index_is : isIndex m N k s ≡ exact end s
-      unfolding isIndex
+      pub index_is : is_index m N k s ≡ exact end s
+      unfolding is_index
       index_is = exact-cut s (need (tree m N) k (unpack s)) end ends-need
 
       -- an index's bitmaps end in its bytes
-      pub index-end : isIndex m N k s ≡ true → end ≤ 8 * length s
-      unfolding isIndex
+      pub index-end : is_index m N k s ≡ true → end ≤ 8 * length s
+      unfolding is_index
       index-end e =
           let c : byte_count (need (tree m N) k (unpack s)) ≡ length s = eqb-true _ _ (both (eqb (byte_count (need (tree m N) k (unpack s))) (length s)) _ e).0 in
           omega (arith, ends-need, c, unpack-length s)
 
-    pub ask-not : {A : Type 0} (next : Outcome A) → isIndex m N k s ≡ false → refused NotAnIndex ≡ ask m N k s next
+    pub ask-not : {A : Type 0} (next : Outcome A) → is_index m N k s ≡ false → refused NotAnIndex ≡ ask m N k s next
     ask-not next e = sym (tree-legal m N k p _ ∙ simp e)
 
-    pub ask-next : {A : Type 0} (next : Outcome A) → isIndex m N k s ≡ true → ask m N k s next ≡ next
+    pub ask-next : {A : Type 0} (next : Outcome A) → is_index m N k s ≡ true → ask m N k s next ≡ next
     ask-next next e = tree-legal m N k p _ ∙ simp e
 
 -- ## The number asked for

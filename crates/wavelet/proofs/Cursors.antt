@@ -11,16 +11,16 @@ use Rattle.fibonacci.specs.Code.{past, F, first}
 use Rattle.calls.specs.Limits.{Order}
 use Rattle.fibonacci.proofs.Numbers.{first-suc, first-rises, F-first}
 use Rattle.fibonacci.proofs.Lookup.{each-order, first-within}
-use Rattle.wavelet.specs.Questions.{maxAlphabet}
+use Rattle.wavelet.specs.Questions.{max_alphabet}
 use Rattle.wavelet.specs.Leaves.{side_of}
 use Rattle.wavelet.specs.declared.Cursor.{Cursor}
 
 -- no codeword of the largest alphabet has more than 16 bits before its last ones
-seventeen : (m : ℕ) → Order m → maxAlphabet < first m 17
+seventeen : (m : ℕ) → Order m → max_alphabet < first m 17
 unfolding past F first
-seventeen m o = leb-false _ _ (each-order (λ m. leb (first m 17) maxAlphabet) false refl m o)
+seventeen m o = leb-false _ _ (each-order (λ m. leb (first m 17) max_alphabet) false refl m o)
 
-pub shallow : (m d : ℕ) → Order m → first m d ≤ maxAlphabet → d ≤ 16
+pub shallow : (m d : ℕ) → Order m → first m d ≤ max_alphabet → d ≤ 16
 shallow m d o h =
     elim (dec_le d 16) [
       | yes l ↦ l
@@ -28,11 +28,11 @@ shallow m d o h =
     ]
 
 -- s bits stand before, and w is at least the first number of the codewords that go on
-module _ (m s w : ℕ) (o : Order m) (low : first m (s + 1) ≤ w) (h : w ≤ maxAlphabet) where
+module _ (m s w : ℕ) (o : Order m) (low : first m (s + 1) ≤ w) (h : w ≤ max_alphabet) where
   pub deep : s + 1 + m ≤ 47
   deep = first-within m o (s + 1) (omega arith)
 
-  pub step_small : F m (s + 1) ≤ maxAlphabet
+  pub step_small : F m (s + 1) ≤ max_alphabet
   step_small = omega (arith, F-first m (s + 1))
 
 pub low-more : (m s w : ℕ) → first m (s + 1) ≤ w → first m (s + 1 + 1) ≤ w + F m (s + 1)

@@ -12,7 +12,7 @@ use Rattle.fibonacci.specs.Code.{first}
 use Rattle.calls.specs.Limits.{Order}
 use Rattle.wavelet.specs.Nodes.{Tree, leaf, node, prune, tree}
 use Rattle.wavelet.specs.Bitmaps.{need}
-use Rattle.wavelet.specs.Questions.{maxAlphabet}
+use Rattle.wavelet.specs.Questions.{max_alphabet}
 use Rattle.wavelet.specs.Leaves.{Describes}
 use Rattle.wavelet.proofs.Pruned.{cursor-root, cursor-node, cursor-high, cursor-full}
 use Rattle.wavelet.proofs.Cursors.{shallow, low-more}
@@ -47,7 +47,7 @@ leaf-or h f {m} {N} {q} {s} {w} {r} a inner =
     ]
 
 -- the tree after a string of s bits is at most 16 - s deep
-prune-within : (h f : ℕ) {m N : ℕ} {q : List Bool} {s w r c : ℕ} → Order m → N ≤ maxAlphabet → 16 ≤ s + h → first m (s + 1) ≤ w
+prune-within : (h f : ℕ) {m N : ℕ} {q : List Bool} {s w r c : ℕ} → Order m → N ≤ max_alphabet → 16 ≤ s + h → first m (s + 1) ≤ w
     → Describes m N f q s w r c → Within h (prune m N f q)
 prune-within zero f {m} {s = s} o most deep low a =
     leaf-or zero f a (λ few high. absurd (omega (arith, shallow m (s + 1) o (omega arith))))
@@ -56,11 +56,11 @@ prune-within (suc h) f {m} {s = s} {w} o most deep low a =
     let k = cursor-node a few high in
     let more = low-more m s w low in
     rw k.tree_is (
-      prune-within h k.g o most (omega arith) more k.zero-side,
+      prune-within h k.g o most (omega arith) more k.zero_side,
       prune-within h k.g o most (omega arith) (omega arith) k.one_side,
     ))
 
-pub tree-need : (m N k : ℕ) (b : List Bool) → Order m → 1 ≤ N → N ≤ maxAlphabet → need (tree m N) k b ≤ 16 * k
+pub tree-need : (m N k : ℕ) (b : List Bool) → Order m → 1 ≤ N → N ≤ max_alphabet → need (tree m N) k b ≤ 16 * k
 unfolding tree first
 tree-need m N k b o some most =
     need-most (prune m N (m + N) []) 16 k b (prune-within 16 (m + N) o most (omega arith) (omega arith) (cursor-root m N (omega arith) some))

@@ -11,11 +11,11 @@ use lib.ListN.{length, get_or, take, drop, replicate, length-map, length-replica
 use lib.Seq.{get_or-drop}
 use borrow.Author.Tests.{eq-eqb}
 use Rattle.lists.specs.Lists.{All}
-use Rattle.bits.specs.Bits.{bitValue, sameBit, count, selectBit}
+use Rattle.bits.specs.Bits.{bit_value, same_bit, count, select_bit}
 use Rattle.bits.proofs.Count.{count-le}
 use Rattle.bits.proofs.Select.{select-none}
 use Rattle.wavelet.specs.Bitmaps.{merge}
-use Rattle.wavelet.specs.Questions.{uses, rankIn}
+use Rattle.wavelet.specs.Questions.{uses, rank_in}
 
 -- ## Counts
 
@@ -24,10 +24,10 @@ pub count-before : (v : Bool) (b : List Bool) (i : ℕ) → i < length b → get
 unfolding count
 count-before v [] i h e = absurd (omega arith)
 count-before v (a ∷ b) zero h e =
-    let w : bitValue (sameBit v a) ≡ 1 = ap (λ (x : Bool). bitValue (sameBit v x)) e ∙ self v in
+    let w : bit_value (same_bit v a) ≡ 1 = ap (λ (x : Bool). bit_value (same_bit v x)) e ∙ self v in
     omega arith
   where
-    self : (v : Bool) → bitValue (sameBit v v) ≡ 1
+    self : (v : Bool) → bit_value (same_bit v v) ≡ 1
     self false = refl
     self true = refl
 count-before v (a ∷ b) (suc i) h e = omega (arith, count-before v b i (omega arith) e)
@@ -35,18 +35,18 @@ count-before v (a ∷ b) (suc i) h e = omega (arith, count-before v b i (omega a
 -- ## Places
 
 -- a bit of the other kind is passed over
-select-other : (v a : Bool) (j : ℕ) (b : List Bool) → sameBit v a ≡ false → selectBit v j (a ∷ b) ≡ suc (selectBit v j b)
-unfolding selectBit
-select-other v a zero b e = rw (e, selectBit)
-select-other v a (suc j) b e = rw (e, selectBit)
+select-other : (v a : Bool) (j : ℕ) (b : List Bool) → same_bit v a ≡ false → select_bit v j (a ∷ b) ≡ suc (select_bit v j b)
+unfolding select_bit
+select-other v a zero b e = rw (e, select_bit)
+select-other v a (suc j) b e = rw (e, select_bit)
 
-select-here : (v a : Bool) (b : List Bool) → sameBit v a ≡ true → selectBit v 0 (a ∷ b) ≡ 0
-unfolding selectBit
-select-here v a b e = rw (e, selectBit)
+select-here : (v a : Bool) (b : List Bool) → same_bit v a ≡ true → select_bit v 0 (a ∷ b) ≡ 0
+unfolding select_bit
+select-here v a b e = rw (e, select_bit)
 
-select-next : (v a : Bool) (j : ℕ) (b : List Bool) → sameBit v a ≡ true → selectBit v (suc j) (a ∷ b) ≡ suc (selectBit v j b)
-unfolding selectBit
-select-next v a j b e = rw (e, selectBit)
+select-next : (v a : Bool) (j : ℕ) (b : List Bool) → same_bit v a ≡ true → select_bit v (suc j) (a ∷ b) ≡ suc (select_bit v j b)
+unfolding select_bit
+select-next v a j b e = rw (e, select_bit)
 
 pub merge-length : (b : List Bool) (z o : List ℕ) → length (merge b z o) ≡ length b
 unfolding merge
@@ -66,12 +66,12 @@ merge-at (false ∷ b) z o zero h = refl
 merge-at (true ∷ b) z o zero h = refl
 merge-at (false ∷ b) z o (suc i) h = merge-at b (drop 1 z) o i (omega arith) ∙ go (get_or b i false) (count (get_or b i false) (take i b))
   where
-    go : (v : Bool) (c : ℕ) → get_or (side v (drop 1 z) o) c 0 ≡ get_or (side v z o) (bitValue (sameBit v false) + c) 0
+    go : (v : Bool) (c : ℕ) → get_or (side v (drop 1 z) o) c 0 ≡ get_or (side v z o) (bit_value (same_bit v false) + c) 0
     go false c = get_or-drop 1 z c 0
     go true c = rw (zero-add c)
 merge-at (true ∷ b) z o (suc i) h = merge-at b z (drop 1 o) i (omega arith) ∙ go (get_or b i false) (count (get_or b i false) (take i b))
   where
-    go : (v : Bool) (c : ℕ) → get_or (side v z (drop 1 o)) c 0 ≡ get_or (side v z o) (bitValue (sameBit v true) + c) 0
+    go : (v : Bool) (c : ℕ) → get_or (side v z (drop 1 o)) c 0 ≡ get_or (side v z o) (bit_value (same_bit v true) + c) 0
     go false c = rw (zero-add c)
     go true c = get_or-drop 1 o c 0
 
@@ -95,8 +95,8 @@ all-merge P (true ∷ b) z (x ∷ o) hz ho az ao = (ao.0, all-merge P b z o (ome
 
 -- a number stands among the first as often as on both sides
 rank-sides : (b : List Bool) (z o : List ℕ) (n i : ℕ) → length z ≡ count false b → length o ≡ count true b → i ≤ length b
-    → rankIn (merge b z o) n i ≡ rankIn z n (count false (take i b)) + rankIn o n (count true (take i b))
-unfolding merge count rankIn
+    → rank_in (merge b z o) n i ≡ rank_in z n (count false (take i b)) + rank_in o n (count true (take i b))
+unfolding merge count rank_in
 rank-sides b z o n zero hz ho h = refl
 rank-sides [] z o n (suc i) hz ho h = absurd (omega arith)
 rank-sides (false ∷ b) [] o n (suc i) hz ho h = absurd (omega arith)
@@ -110,50 +110,50 @@ rank-sides (true ∷ b) z (x ∷ o) n (suc i) hz ho h =
 abbrev pub Without : ℕ → List ℕ → Type 0
 Without n row = All (λ x. eqb n x ≡ false) row
 
-rank-none : (row : List ℕ) (n i : ℕ) → Without n row → rankIn row n i ≡ 0
-unfolding rankIn count
+rank-none : (row : List ℕ) (n i : ℕ) → Without n row → rank_in row n i ≡ 0
+unfolding rank_in count
 rank-none row n zero a = refl
 rank-none [] n (suc i) a = refl
 rank-none (x ∷ row) n (suc i) a = rw a.0 (omega (arith, rank-none row n i a.1))
 
 module _ (b : List Bool) (z o : List ℕ) (hz : length z ≡ count false b) (ho : length o ≡ count true b) (n : ℕ) where
-  pub rank-merge-one : Without n z → (i : ℕ) → i ≤ length b → rankIn (merge b z o) n i ≡ rankIn o n (count true (take i b))
+  pub rank-merge-one : Without n z → (i : ℕ) → i ≤ length b → rank_in (merge b z o) n i ≡ rank_in o n (count true (take i b))
   rank-merge-one a i h = omega (arith, rank-sides b z o n i hz ho h, rank-none z n (count false (take i b)) a)
 
-  pub rank-merge-zero : Without n o → (i : ℕ) → i ≤ length b → rankIn (merge b z o) n i ≡ rankIn z n (count false (take i b))
+  pub rank-merge-zero : Without n o → (i : ℕ) → i ≤ length b → rank_in (merge b z o) n i ≡ rank_in z n (count false (take i b))
   rank-merge-zero a i h = omega (arith, rank-sides b z o n i hz ho h, rank-none o n (count true (take i b)) a)
 
 -- ## Select
 
 -- u is the side v of w by the bits b, as far as places go; so it is with one bit more in front of all three
-select-step : (v e : Bool) (b u w : List Bool) → sameBit v v ≡ true → ((j : ℕ) → selectBit true j w ≡ selectBit v (selectBit true j u) b)
-    → (j : ℕ) → selectBit true j (e ∷ w) ≡ selectBit v (selectBit true j (e ∷ u)) (v ∷ b)
+select-step : (v e : Bool) (b u w : List Bool) → same_bit v v ≡ true → ((j : ℕ) → select_bit true j w ≡ select_bit v (select_bit true j u) b)
+    → (j : ℕ) → select_bit true j (e ∷ w) ≡ select_bit v (select_bit true j (e ∷ u)) (v ∷ b)
 select-step v false b u w s ih j =
-    rw (select-other true false j w refl, select-other true false j u refl, select-next v v (selectBit true j u) b s) (ap suc (ih j))
+    rw (select-other true false j w refl, select-other true false j u refl, select-next v v (select_bit true j u) b s) (ap suc (ih j))
 select-step v true b u w s ih zero = rw (select-here true true w refl, select-here true true u refl, select-here v v b s)
 select-step v true b u w s ih (suc j) =
-    rw (select-next true true j w refl, select-next true true j u refl, select-next v v (selectBit true j u) b s) (ap suc (ih j))
+    rw (select-next true true j w refl, select-next true true j u refl, select-next v v (select_bit true j u) b s) (ap suc (ih j))
 
 pub select-merge-one : (b : List Bool) (z o : List ℕ) → length z ≡ count false b → length o ≡ count true b → (n : ℕ) → Without n z
-    → (j : ℕ) → selectBit true j (uses n (merge b z o)) ≡ selectBit true (selectBit true j (uses n o)) b
+    → (j : ℕ) → select_bit true j (uses n (merge b z o)) ≡ select_bit true (select_bit true j (uses n o)) b
 unfolding merge count
-select-merge-one [] z o hz ho n a j = unfold selectBit in refl
+select-merge-one [] z o hz ho n a j = unfold select_bit in refl
 select-merge-one (false ∷ b) [] o hz ho n a j = absurd (omega arith)
 select-merge-one (false ∷ b) (x ∷ z) o hz ho n a j =
     select-other true (eqb n x) j (uses n (merge b z o)) a.0 ∙ ap suc (select-merge-one b z o (omega arith) (omega arith) n a.1 j)
-    ∙ sym (select-other true false (selectBit true j (uses n o)) b refl)
+    ∙ sym (select-other true false (select_bit true j (uses n o)) b refl)
 select-merge-one (true ∷ b) z [] hz ho n a j = absurd (omega arith)
 select-merge-one (true ∷ b) z (x ∷ o) hz ho n a j =
     select-step true (eqb n x) b (uses n o) (uses n (merge b z o)) refl (select-merge-one b z o (omega arith) (omega arith) n a) j
 
 pub select-merge-zero : (b : List Bool) (z o : List ℕ) → length z ≡ count false b → length o ≡ count true b → (n : ℕ) → Without n o
-    → (j : ℕ) → selectBit true j (uses n (merge b z o)) ≡ selectBit false (selectBit true j (uses n z)) b
+    → (j : ℕ) → select_bit true j (uses n (merge b z o)) ≡ select_bit false (select_bit true j (uses n z)) b
 unfolding merge count
-select-merge-zero [] z o hz ho n a j = unfold selectBit in refl
+select-merge-zero [] z o hz ho n a j = unfold select_bit in refl
 select-merge-zero (true ∷ b) z [] hz ho n a j = absurd (omega arith)
 select-merge-zero (true ∷ b) z (x ∷ o) hz ho n a j =
     select-other true (eqb n x) j (uses n (merge b z o)) a.0 ∙ ap suc (select-merge-zero b z o (omega arith) (omega arith) n a.1 j)
-    ∙ sym (select-other false true (selectBit true j (uses n z)) b refl)
+    ∙ sym (select-other false true (select_bit true j (uses n z)) b refl)
 select-merge-zero (false ∷ b) [] o hz ho n a j = absurd (omega arith)
 select-merge-zero (false ∷ b) (x ∷ z) o hz ho n a j =
     select-step false (eqb n x) b (uses n z) (uses n (merge b z o)) refl (select-merge-zero b z o (omega arith) (omega arith) n a) j
@@ -164,21 +164,21 @@ uses-same : (k n : ℕ) → uses n (replicate k n) ≡ replicate k true
 uses-same zero n = refl
 uses-same (suc k) n = rw (eq-eqb n n refl) (ap (λ (l : List Bool). true ∷ l) (uses-same k n))
 
-pub rank_same : (k n i : ℕ) → i ≤ k → rankIn (replicate k n) n i ≡ i
-unfolding rankIn count
+pub rank_same : (k n i : ℕ) → i ≤ k → rank_in (replicate k n) n i ≡ i
+unfolding rank_in count
 rank_same k n zero h = refl
 rank_same zero n (suc i) h = absurd (omega arith)
 rank_same (suc k) n (suc i) h = rw (eq-eqb n n refl) (omega (arith, rank_same k n i (omega arith)))
 
-pub select-same : (k n j : ℕ) → j < k → selectBit true j (uses n (replicate k n)) ≡ j
-select-same k n j h = ap (selectBit true j) (uses-same k n) ∙ go k j h
+pub select-same : (k n j : ℕ) → j < k → select_bit true j (uses n (replicate k n)) ≡ j
+select-same k n j h = ap (select_bit true j) (uses-same k n) ∙ go k j h
   where
-    go : (k j : ℕ) → j < k → selectBit true j (replicate k true) ≡ j
+    go : (k j : ℕ) → j < k → select_bit true j (replicate k true) ≡ j
     go zero j h = absurd (omega arith)
     go (suc k) zero h = select-here true true (replicate k true) refl
     go (suc k) (suc j) h = select-next true true j (replicate k true) refl ∙ ap suc (go k j (omega arith))
 
-pub select-same-none : (k n j : ℕ) → k ≤ j → selectBit true j (uses n (replicate k n)) ≡ k
+pub select-same-none : (k n j : ℕ) → k ≤ j → select_bit true j (uses n (replicate k n)) ≡ k
 select-same-none k n j h =
     let e : length (uses n (replicate k n)) ≡ k = length-map (replicate k n) (eqb n) ∙ length-replicate k n in
     select-none true j (uses n (replicate k n)) (omega (arith, count-le true (uses n (replicate k n)))) ∙ e

@@ -13,14 +13,14 @@ use native.Mathlib.Omega.{arith}
 use native.Mathlib.Decide.{dec_le}
 use lib.ListN.{length, get_or, take, drop, length-append, replicate-append-replicate, get_or-append}
 use lib.Seq.{take_at}
-use Rattle.lists.specs.Lists.{valuesFrom, filter}
+use Rattle.lists.specs.Lists.{values_from, filter}
 use Rattle.lists.proofs.Members.{all_in}
-use Rattle.bits.specs.Bits.{sameBit, bitValue}
+use Rattle.bits.specs.Bits.{same_bit, bit_value}
 use Rattle.fibonacci.specs.Code.{ones, runs, Codeword, value, number, codeword}
 use Rattle.calls.proofs.Checks.{both}
 use Rattle.fibonacci.proofs.Runs.{few_ones, runs-cut}
-use Rattle.fibonacci.proofs.Numbers.{first-rises, first_pos, value-append, number-one, form-codeword, codeword-good}
-use Rattle.wavelet.specs.Nodes.{isPrefix, beginsSome, isNode, Tree, leaf, node, prune, tree, nodes}
+use Rattle.fibonacci.proofs.Numbers.{first-rises, first_pos, value-append, number_one, form-codeword, codeword-good}
+use Rattle.wavelet.specs.Nodes.{is_prefix, begins_some, is_node, Tree, leaf, node, prune, tree, nodes}
 use Rattle.wavelet.specs.Leaves.{Describes}
 use Rattle.wavelet.proofs.Strings.{begins-rest, begins-append, begins-bit, begins-next, begins-front, begins-one}
 use Rattle.wavelet.proofs.Trees.{Under, Has, has-begins, nodes-begin}
@@ -30,18 +30,18 @@ use Rattle.wavelet.proofs.Pruned.{cursor-root, cursor-node, cursor-number, curso
 -- ## How many of the numbers j, j + 1, .. , N of them, pass a test
 
 abbrev passing : (ℕ → Bool) → ℕ → ℕ → ℕ
-passing t j N = length (filter t (valuesFrom (λ n. n) j N))
+passing t j N = length (filter t (values_from (λ n. n) j N))
 
-passing_step : (t : ℕ → Bool) (j N : ℕ) → passing t j (suc N) ≡ bitValue (t j) + passing t (suc j) N
+passing_step : (t : ℕ → Bool) (j N : ℕ) → passing t j (suc N) ≡ bit_value (t j) + passing t (suc j) N
 unfolding filter
 passing_step t j N = go (t j) refl
   where
-    go : (v : Bool) → t j ≡ v → passing t j (suc N) ≡ bitValue v + passing t (suc j) N
+    go : (v : Bool) → t j ≡ v → passing t j (suc N) ≡ bit_value v + passing t (suc j) N
     go true e = rw (e, filter) (omega arith)
     go false e = rw (e, filter) (omega arith)
 
 -- what passes a test passes just one of two others
-passing-split : (t u v : ℕ → Bool) (j N : ℕ) → ((n : ℕ) → j ≤ n → n < j + N → bitValue (t n) ≡ bitValue (u n) + bitValue (v n))
+passing-split : (t u v : ℕ → Bool) (j N : ℕ) → ((n : ℕ) → j ≤ n → n < j + N → bit_value (t n) ≡ bit_value (u n) + bit_value (v n))
     → passing t j N ≡ passing u j N + passing v j N
 unfolding filter
 passing-split t u v j zero f = refl
@@ -59,7 +59,7 @@ passing-split t u v j (suc N) f =
 passing-all : (t : ℕ → Bool) (j N : ℕ) → ((n : ℕ) → t n ≡ true) → passing t j N ≡ N
 unfolding filter
 passing-all t j zero f = refl
-passing-all t j (suc N) f = omega (arith, passing_step t j N, ap bitValue (f j), passing-all t (suc j) N f)
+passing-all t j (suc N) f = omega (arith, passing_step t j N, ap bit_value (f j), passing-all t (suc j) N f)
 
 passing-none : (t : ℕ → Bool) (j N : ℕ) → ((n : ℕ) → j ≤ n → n < j + N → t n ≡ true → ⊥) → passing t j N ≡ 0
 unfolding filter
@@ -68,7 +68,7 @@ passing-none t j (suc N) f = go (t j) refl (passing-none t (suc j) N (λ n a b. 
   where
     go : (v : Bool) → t j ≡ v → passing t (suc j) N ≡ 0 → passing t j (suc N) ≡ 0
     go true e ih = absurd (f j (omega arith) (omega arith) e)
-    go false e ih = omega (arith, passing_step t j N, ap bitValue e)
+    go false e ih = omega (arith, passing_step t j N, ap bit_value e)
 
 passing-one : (t : ℕ → Bool) (j N c : ℕ) → j ≤ c → c < j + N → t c ≡ true → ((n : ℕ) → j ≤ n → n < j + N → t n ≡ true → n ≡ c) → passing t j N ≡ 1
 passing-one t j zero c a b e f = absurd (omega arith)
@@ -78,26 +78,26 @@ passing-one t j (suc N) c a b e f = go (t j) refl (λ l. passing-one t (suc j) N
     go true d ih =
         let none : passing t (suc j) N ≡ 0 =
         passing-none t (suc j) N (λ n x y z. omega (arith, f n (omega arith) (omega arith) z, f j (omega arith) (omega arith) d)) in
-        omega (arith, passing_step t j N, ap bitValue d)
+        omega (arith, passing_step t j N, ap bit_value d)
     go false d ih =
         elim (dec_le c j) [
           | yes l ↦ let s : c ≡ j = omega arith in absurd (true≢false (sym e ∙ ap t s ∙ d))
-          | no l ↦ omega (arith, passing_step t j N, ap bitValue d, ih (omega arith))
+          | no l ↦ omega (arith, passing_step t j N, ap bit_value d, ih (omega arith))
         ]
 
 -- a string that goes on goes on with one bit
-begins-split : (q b : List Bool) → (isPrefix q b ≡ true → length q < length b)
-    → bitValue (isPrefix q b) ≡ bitValue (isPrefix (q ++ (false ∷ [])) b) + bitValue (isPrefix (q ++ (true ∷ [])) b)
-unfolding isPrefix
+begins-split : (q b : List Bool) → (is_prefix q b ≡ true → length q < length b)
+    → bit_value (is_prefix q b) ≡ bit_value (is_prefix (q ++ (false ∷ [])) b) + bit_value (is_prefix (q ++ (true ∷ [])) b)
+unfolding is_prefix
 begins-split [] [] f = absurd (omega (arith, f refl))
 begins-split [] (false ∷ b) f = refl
 begins-split [] (true ∷ b) f = refl
 begins-split (a ∷ q) [] f = refl
-begins-split (a ∷ q) (c ∷ b) f = go (sameBit a c) f (begins-split q b)
+begins-split (a ∷ q) (c ∷ b) f = go (same_bit a c) f (begins-split q b)
   where
-    go : (v : Bool) → ((v && isPrefix q b) ≡ true → suc (length q) < suc (length b))
-        → ((isPrefix q b ≡ true → length q < length b) → bitValue (isPrefix q b) ≡ bitValue (isPrefix (q ++ (false ∷ [])) b) + bitValue (isPrefix (q ++ (true ∷ [])) b))
-        → bitValue (v && isPrefix q b) ≡ bitValue (v && isPrefix (q ++ (false ∷ [])) b) + bitValue (v && isPrefix (q ++ (true ∷ [])) b)
+    go : (v : Bool) → ((v && is_prefix q b) ≡ true → suc (length q) < suc (length b))
+        → ((is_prefix q b ≡ true → length q < length b) → bit_value (is_prefix q b) ≡ bit_value (is_prefix (q ++ (false ∷ [])) b) + bit_value (is_prefix (q ++ (true ∷ [])) b))
+        → bit_value (v && is_prefix q b) ≡ bit_value (v && is_prefix (q ++ (false ∷ [])) b) + bit_value (v && is_prefix (q ++ (true ∷ [])) b)
     go true f ih = ih (λ e. omega (arith, f e))
     go false f ih = refl
 
@@ -106,22 +106,22 @@ begins-split (a ∷ q) (c ∷ b) f = go (sameBit a c) f (begins-split q b)
 -- the tree after q: all its strings begin with q, its numbers are those of 1 .. N whose codewords do, and its nodes are one fewer
 record Grown (m N : ℕ) (q : List Bool) (t : Tree) : Type 0 where
   under : Under m q t
-  has : (n : ℕ) → 1 ≤ n → n ≤ N → isPrefix q (codeword m n) ≡ true → Has t n
+  has : (n : ℕ) → 1 ≤ n → n ≤ N → is_prefix q (codeword m n) ≡ true → Has t n
   only : (n : ℕ) → Has t n → n ≤ N
-  counted : suc (length (nodes t)) ≡ passing (λ n. isPrefix q (codeword m n)) 1 N
+  counted : suc (length (nodes t)) ≡ passing (λ n. is_prefix q (codeword m n)) 1 N
 
-grown-leaf : (m N : ℕ) (q : List Bool) (c : ℕ) → 1 ≤ c → c ≤ N → isPrefix q (codeword m c) ≡ true
-    → ((n : ℕ) → 1 ≤ n → n ≤ N → isPrefix q (codeword m n) ≡ true → n ≡ c) → Grown m N q (leaf c)
+grown-leaf : (m N : ℕ) (q : List Bool) (c : ℕ) → 1 ≤ c → c ≤ N → is_prefix q (codeword m c) ≡ true
+    → ((n : ℕ) → 1 ≤ n → n ≤ N → is_prefix q (codeword m n) ≡ true → n ≡ c) → Grown m N q (leaf c)
 unfolding nodes
 grown-leaf m N q c a b e f =
     record {
       under = (a, e);
       has = f;
       only = λ n i. omega arith;
-      counted = sym (passing-one (λ n. isPrefix q (codeword m n)) 1 N c a (omega arith) e (λ n x y. f n x (omega arith)));
+      counted = sym (passing-one (λ n. is_prefix q (codeword m n)) 1 N c a (omega arith) e (λ n x y. f n x (omega arith)));
     }
 
-grown-node : (m N : ℕ) (q : List Bool) (z o : Tree) → ((n : ℕ) → 1 ≤ n → isPrefix q (codeword m n) ≡ true → length q < length (codeword m n))
+grown-node : (m N : ℕ) (q : List Bool) (z o : Tree) → ((n : ℕ) → 1 ≤ n → is_prefix q (codeword m n) ≡ true → length q < length (codeword m n))
     → Grown m N (q ++ (false ∷ [])) z → Grown m N (q ++ (true ∷ [])) o → Grown m N q (node q z o)
 unfolding nodes
 grown-node m N q z o longer gz go =
@@ -134,12 +134,12 @@ grown-node m N q z o longer gz go =
         length-append (nodes z) (nodes o),
         gz.counted,
         go.counted,
-        passing-split (λ n. isPrefix q (codeword m n)) (λ n. isPrefix (q ++ (false ∷ [])) (codeword m n)) (λ n. isPrefix (q ++ (true ∷ [])) (codeword m n)) 1 N
+        passing-split (λ n. is_prefix q (codeword m n)) (λ n. is_prefix (q ++ (false ∷ [])) (codeword m n)) (λ n. is_prefix (q ++ (true ∷ [])) (codeword m n)) 1 N
             (λ n a b. begins-split q (codeword m n) (longer n a)),
       );
     }
   where
-    side : (n : ℕ) → 1 ≤ n → n ≤ N → isPrefix q (codeword m n) ≡ true → (v : Bool) → get_or (codeword m n) (length q) false ≡ v → Has z n ⊎ Has o n
+    side : (n : ℕ) → 1 ≤ n → n ≤ N → is_prefix q (codeword m n) ≡ true → (v : Bool) → get_or (codeword m n) (length q) false ≡ v → Has z n ⊎ Has o n
     side n a b e false d = inl (gz.has n a b (begins-next q (codeword m n) false e (longer n a e) d))
     side n a b e true d = inr (go.has n a b (begins-next q (codeword m n) true e (longer n a e) d))
 
@@ -153,13 +153,13 @@ grown (suc d) {m} {N} {f} {q} {s} {w} {r} {c} b a =
           elim (dec_le w N) [
             | yes h ↦
                 let k = cursor-node a (omega arith) h in
-                let less : k.g < d = omega (arith, k.fuel-is) in
-                rw k.tree_is (grown-node m N q _ _ (cursor-longer a (omega arith)) (grown d less k.zero-side) (grown d less k.one_side))
+                let less : k.g < d = omega (arith, k.fuel_is) in
+                rw k.tree_is (grown-node m N q _ _ (cursor-longer a (omega arith)) (grown d less k.zero_side) (grown d less k.one_side))
             | no h ↦ rw (cursor-high a (omega arith)) (ends (high-only a (omega arith)))
           ]
     ]
   where
-    ends : ((n : ℕ) → 1 ≤ n → n ≤ N → isPrefix q (codeword m n) ≡ true → n ≡ c) → Grown m N q (leaf c)
+    ends : ((n : ℕ) → 1 ≤ n → n ≤ N → is_prefix q (codeword m n) ≡ true → n ≡ c) → Grown m N q (leaf c)
     ends only = let x = cursor-number a in grown-leaf m N q c x.0 a.small x.1 only
 
 pub cursor-under : {m N f : ℕ} {q : List Bool} {s w r c : ℕ} → Describes m N f q s w r c → Under m q (prune m N f q)
@@ -173,7 +173,7 @@ pub tree-under : (m N : ℕ) → 1 ≤ m → 1 ≤ N → Under m [] (tree m N)
 tree-under m N p h = (tree-grown m N p h).under
 
 pub tree-has : (m N : ℕ) → 1 ≤ m → 1 ≤ N → (n : ℕ) → 1 ≤ n → n ≤ N → Has (tree m N) n
-unfolding isPrefix
+unfolding is_prefix
 tree-has m N p h n a b = (tree-grown m N p h).has n a b refl
 
 pub tree-only : (m N : ℕ) → 1 ≤ m → 1 ≤ N → (n : ℕ) → Has (tree m N) n → (1 ≤ n) × (n ≤ N)
@@ -183,18 +183,18 @@ tree-only m N p h n e =
 
 -- ## How many nodes there are
 
-pub node-count : (m N : ℕ) → 1 ≤ m → 1 ≤ N → suc (length (nodes (tree m N))) ≡ N
-unfolding isPrefix
-node-count m N p h = (tree-grown m N p h).counted ∙ passing-all (λ n. isPrefix [] (codeword m n)) 1 N (λ n. refl)
+pub node_count : (m N : ℕ) → 1 ≤ m → 1 ≤ N → suc (length (nodes (tree m N))) ≡ N
+unfolding is_prefix
+node_count m N p h = (tree-grown m N p h).counted ∙ passing-all (λ n. is_prefix [] (codeword m n)) 1 N (λ n. refl)
 
 -- ## Which they are
 
-node-both : (m N : ℕ) (p : List Bool) → isNode m N p ≡ true → (beginsSome m N (p ++ (false ∷ [])) ≡ true) × (beginsSome m N (p ++ (true ∷ [])) ≡ true)
-unfolding isNode
-node-both m N p e = both (beginsSome m N (p ++ (false ∷ []))) (beginsSome m N (p ++ (true ∷ []))) e
+node-both : (m N : ℕ) (p : List Bool) → is_node m N p ≡ true → (begins_some m N (p ++ (false ∷ [])) ≡ true) × (begins_some m N (p ++ (true ∷ [])) ≡ true)
+unfolding is_node
+node-both m N p e = both (begins_some m N (p ++ (false ∷ []))) (begins_some m N (p ++ (true ∷ []))) e
 
-both-node : (m N : ℕ) (p : List Bool) → beginsSome m N (p ++ (false ∷ [])) ≡ true → beginsSome m N (p ++ (true ∷ [])) ≡ true → isNode m N p ≡ true
-unfolding isNode
+both-node : (m N : ℕ) (p : List Bool) → begins_some m N (p ++ (false ∷ [])) ≡ true → begins_some m N (p ++ (true ∷ [])) ≡ true → is_node m N p ≡ true
+unfolding is_node
 both-node m N p e f = rw (e, f)
 
 -- some number stands in every tree, and so its string goes on
@@ -202,14 +202,14 @@ some_number : (t : Tree) → (n : ℕ) × Has t n
 some_number (leaf x) = (x, refl)
 some_number (node p z o) = let n = some_number z in (n.0, inl n.1)
 
-under_goes : (m N : ℕ) (q : List Bool) (t : Tree) → Under m q t → ((n : ℕ) → Has t n → n ≤ N) → beginsSome m N q ≡ true
+under_goes : (m N : ℕ) (q : List Bool) (t : Tree) → Under m q t → ((n : ℕ) → Has t n → n ≤ N) → begins_some m N q ≡ true
 under_goes m N q t u only =
     let n = some_number t in
     let k = has-begins m q t n.0 u n.1 in
     goes_on m N q n.0 k.0 (only n.0 n.1) k.1
 
 -- a node of the tree goes on with both bits
-listed-node : (m N : ℕ) (q : List Bool) (t : Tree) → Under m q t → ((n : ℕ) → Has t n → n ≤ N) → (p : List Bool) → Memᴰ p (nodes t) → isNode m N p ≡ true
+listed-node : (m N : ℕ) (q : List Bool) (t : Tree) → Under m q t → ((n : ℕ) → Has t n → n ≤ N) → (p : List Bool) → Memᴰ p (nodes t) → is_node m N p ≡ true
 unfolding nodes
 listed-node m N q (leaf x) u only p i = absurd (Memᴰ.not-nil i)
 listed-node m N q (node x z o) u only p i =
@@ -224,17 +224,17 @@ listed-node m N q (node x z o) u only p i =
     (Memᴰ.cases_cons i)
 
 -- two strings part in one place only
-begins-at : (x a : List Bool) (i : ℕ) → isPrefix x a ≡ true → i < length x → get_or a i false ≡ get_or x i false
+begins-at : (x a : List Bool) (i : ℕ) → is_prefix x a ≡ true → i < length x → get_or a i false ≡ get_or x i false
 begins-at x a i e h =
     ap (λ (l : List Bool). get_or l i false) (sym (begins-rest x a e)) ∙ get_or-append x (drop (length x) a) false i h
 
-begins-same : (p x a : List Bool) → isPrefix p a ≡ true → isPrefix x a ≡ true → length p ≡ length x → p ≡ x
+begins-same : (p x a : List Bool) → is_prefix p a ≡ true → is_prefix x a ≡ true → length p ≡ length x → p ≡ x
 begins-same p x a e f l =
     sym (take_at p (drop (length p) a) (length p) refl) ∙ ap (take (length p)) (begins-rest p a e ∙ sym (begins-rest x a f))
     ∙ take_at x (drop (length x) a) (length p) (sym l)
 
-part-below : (p x a b : List Bool) (u v : Bool) → (u ≡ v → ⊥) → isPrefix (p ++ (u ∷ [])) a ≡ true → isPrefix (p ++ (v ∷ [])) b ≡ true
-    → isPrefix x a ≡ true → isPrefix x b ≡ true → length x ≤ length p
+part-below : (p x a b : List Bool) (u v : Bool) → (u ≡ v → ⊥) → is_prefix (p ++ (u ∷ [])) a ≡ true → is_prefix (p ++ (v ∷ [])) b ≡ true
+    → is_prefix x a ≡ true → is_prefix x b ≡ true → length x ≤ length p
 part-below p x a b u v n ea eb fa fb =
     elim (dec_le (length x) (length p)) [
       | yes l ↦ l
@@ -243,8 +243,8 @@ part-below p x a b u v n ea eb fa fb =
           absurd (n (sym (begins-bit p a u ea) ∙ begins-at x a (length p) fa h ∙ sym (begins-at x b (length p) fb h) ∙ begins-bit p b v eb))
     ]
 
-part-once : (p x a b : List Bool) (u v c d : Bool) → (u ≡ v → ⊥) → (c ≡ d → ⊥) → isPrefix (p ++ (u ∷ [])) a ≡ true → isPrefix (p ++ (v ∷ [])) b ≡ true
-    → isPrefix (x ++ (c ∷ [])) a ≡ true → isPrefix (x ++ (d ∷ [])) b ≡ true → p ≡ x
+part-once : (p x a b : List Bool) (u v c d : Bool) → (u ≡ v → ⊥) → (c ≡ d → ⊥) → is_prefix (p ++ (u ∷ [])) a ≡ true → is_prefix (p ++ (v ∷ [])) b ≡ true
+    → is_prefix (x ++ (c ∷ [])) a ≡ true → is_prefix (x ++ (d ∷ [])) b ≡ true → p ≡ x
 part-once p x a b u v c d n k ea eb fa fb =
     let pa = begins-front p a u ea in
     let xa = begins-front x a c fa in
@@ -254,7 +254,7 @@ part-once p x a b u v c d n k ea eb fa fb =
 
 -- where the codewords of two of a tree's numbers part, there is a node
 node-listed : (m : ℕ) (q : List Bool) (t : Tree) → Under m q t → (p : List Bool) (a b : ℕ) → Has t a → Has t b
-    → isPrefix (p ++ (false ∷ [])) (codeword m a) ≡ true → isPrefix (p ++ (true ∷ [])) (codeword m b) ≡ true → Memᴰ p (nodes t)
+    → is_prefix (p ++ (false ∷ [])) (codeword m a) ≡ true → is_prefix (p ++ (true ∷ [])) (codeword m b) ≡ true → Memᴰ p (nodes t)
 unfolding nodes
 node-listed m q (leaf x) u p a b i j e f =
     let same : codeword m b ≡ codeword m a = ap (codeword m) (j ∙ sym i) in
@@ -273,12 +273,12 @@ node-listed m q (node x z o) u p a b (inr i) (inl j) e f =
     g (has-begins m (x ++ (false ∷ [])) z b u.1 j).1 in
     absurd (begins-one p (codeword m a) e (rw (← same) at g))
 
-pub nodes-are : (m N : ℕ) → 1 ≤ m → 1 ≤ N → (p : List Bool) → Mem p (nodes (tree m N)) ↔ (isNode m N p ≡ true)
-nodes-are m N k h p =
+pub nodes_are : (m N : ℕ) → 1 ≤ m → 1 ≤ N → (p : List Bool) → Mem p (nodes (tree m N)) ↔ (is_node m N p ≡ true)
+nodes_are m N k h p =
     let t = tree m N in
     let u = tree-under m N k h in (
       λ (i : Mem p (nodes t)). ∥∥₁_elim i (Bool-set _ _) (listed-node m N [] t u (λ n i. (tree-only m N k h n i).1) p),
-      λ (e : isNode m N p ≡ true).
+      λ (e : is_node m N p ≡ true).
           let g = node-both m N p e in
           let a = goes_some m N (p ++ (false ∷ [])) g.0 in
           let b = goes_some m N (p ++ (true ∷ [])) g.1 in
@@ -300,7 +300,7 @@ ending (a ∷ p) = let x = ending p in go a x.0 x.1
 
 -- fewer than m ones may become m
 ones-go : (m N : ℕ) (x : List Bool) (r : ℕ) → 1 ≤ m → r < m → Codeword m (x ++ ones m) → number m (x ++ ones m) ≤ N
-    → beginsSome m N ((x ++ ones r) ++ (true ∷ [])) ≡ true
+    → begins_some m N ((x ++ ones r) ++ (true ∷ [])) ≡ true
 ones-go m N x r p l c h =
     let j : ℕ = m - suc r in
     let all : r + suc j ≡ m = omega arith in
@@ -309,13 +309,13 @@ ones-go m N x r p l c h =
     ∙ ap (λ (b : List Bool). x ++ b) (replicate-append-replicate r (suc j) true ∙ ap ones all) in
     goes-codeword m N ((x ++ ones r) ++ (true ∷ [])) (ones j) p (rw e c) (rw e h)
 
-one-goes : (m N : ℕ) (p : List Bool) → 1 ≤ m → runs m p ≡ 0 → number m (p ++ (false ∷ ones m)) ≤ N → beginsSome m N (p ++ (true ∷ [])) ≡ true
+one-goes : (m N : ℕ) (p : List Bool) → 1 ≤ m → runs m p ≡ 0 → number m (p ++ (false ∷ ones m)) ≤ N → begins_some m N (p ++ (true ∷ [])) ≡ true
 one-goes m N p k free h = let x = ending p in go x.0 x.1
   where
-    go : (r : ℕ) → (p ≡ ones r) ⊎ ((y : List Bool) × (p ≡ (y ++ (false ∷ [])) ++ ones r)) → beginsSome m N (p ++ (true ∷ [])) ≡ true
+    go : (r : ℕ) → (p ≡ ones r) ⊎ ((y : List Bool) × (p ≡ (y ++ (false ∷ [])) ++ ones r)) → begins_some m N (p ++ (true ∷ [])) ≡ true
     go r (inl e) =
         let few : r < m = few_ones m r k (ap (runs m) (sym e) ∙ free) in
-        rw e (ones-go m N [] r k few (form-codeword m (ones m) k (inl refl)) (omega (arith, number-one m, next-number m p, first_pos m (suc (length p)))))
+        rw e (ones-go m N [] r k few (form-codeword m (ones m) k (inl refl)) (omega (arith, number_one m, next-number m p, first_pos m (suc (length p)))))
     go r (inr (y, e)) =
         let y0 : List Bool = y ++ (false ∷ []) in
         let f : p ≡ y ++ (false ∷ ones r) = e ∙ append_assoc y (false ∷ []) (ones r) in
@@ -326,9 +326,9 @@ one-goes m N p k free h = let x = ending p in go x.0 x.1
         omega (arith, ap (number m) c, next-number m y, next-number m p, first-rises m long, ap (value m 1) f, value-append m 1 y (false ∷ ones r)) in
         rw e (ones-go m N y0 r k (few_ones m r k (omega arith)) (form-codeword m (y0 ++ ones m) k (inr (y, c, omega arith))) low)
 
-pub node-digits : (m N : ℕ) → 1 ≤ m → 1 ≤ N → (p : List Bool) → (isNode m N p ≡ true) ↔ ((runs m p ≡ 0) × (number m (p ++ (false ∷ ones m)) ≤ N))
-node-digits m N k h p = (
-  λ (e : isNode m N p ≡ true).
+pub node_digits : (m N : ℕ) → 1 ≤ m → 1 ≤ N → (p : List Bool) → (is_node m N p ≡ true) ↔ ((runs m p ≡ 0) × (number m (p ++ (false ∷ ones m)) ≤ N))
+node_digits m N k h p = (
+  λ (e : is_node m N p ≡ true).
       let p0 : List Bool = p ++ (false ∷ []) in
       let n = goes_some m N p0 (node-both m N p e).0 in
       let y : List Bool = drop (length p0) (codeword m n.0) in
@@ -345,7 +345,7 @@ node-digits m N k h p = (
 -- ## Each once
 
 -- no string begins with itself and a bit more
-no_longer : (p : List Bool) (a : Bool) → isPrefix (p ++ (a ∷ [])) p ≡ true → ⊥
+no_longer : (p : List Bool) (a : Bool) → is_prefix (p ++ (a ∷ [])) p ≡ true → ⊥
 no_longer p a e =
     omega (
       arith,
@@ -354,10 +354,10 @@ no_longer p a e =
       length-append p (a ∷ []),
     )
 
-pub nodes-once : (m : ℕ) (q : List Bool) (t : Tree) → Under m q t → Nodup (nodes t)
+pub nodes_once : (m : ℕ) (q : List Bool) (t : Tree) → Under m q t → Nodup (nodes t)
 unfolding nodes Nodup-cons Nodup-append
-nodes-once m q (leaf n) u = Pairwise.nil
-nodes-once m q (node p z o) u =
+nodes_once m q (leaf n) u = Pairwise.nil
+nodes_once m q (node p z o) u =
     let zs = nodes-begin m (p ++ (false ∷ [])) z u.1 in
     let os = nodes-begin m (p ++ (true ∷ [])) o u.2 in
     Nodup-cons.1 (
@@ -365,8 +365,8 @@ nodes-once m q (node p z o) u =
           ∥∥₁_elim i ⊥_prop (λ j.
           ⊎_elim (λ k. no_longer p false (all_in _ p (nodes z) zs k)) (λ k. no_longer p true (all_in _ p (nodes o) os k)) (Memᴰ.append_cases (nodes z) j)),
       Nodup-append.1 (
-        nodes-once m _ z u.1,
-        nodes-once m _ o u.2,
+        nodes_once m _ z u.1,
+        nodes_once m _ o u.2,
         λ r i j. ∥∥₁_elim i ⊥_prop (λ a. ∥∥₁_elim j ⊥_prop (λ b. begins-one p r (all_in _ r (nodes z) zs a) (all_in _ r (nodes o) os b))),
       ),
     )

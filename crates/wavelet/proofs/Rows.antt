@@ -20,15 +20,15 @@ use Rattle.bits.proofs.Count.{zeros-none, none-zeros}
 use Rattle.fibonacci.specs.Code.{codeword}
 use Rattle.calls.proofs.Checks.{both, number_is, is-number}
 use Rattle.calls.specs.Limits.{Legal}
-use Rattle.wavelet.specs.Nodes.{isPrefix, Tree, leaf, node, tree, nodes}
-use Rattle.wavelet.specs.Bitmaps.{bitmap, joined, bitmaps, index, need, merge, rowOfBitmaps, isIndex, rowOfIndex}
+use Rattle.wavelet.specs.Nodes.{is_prefix, Tree, leaf, node, tree, nodes}
+use Rattle.wavelet.specs.Bitmaps.{bitmap, joined, bitmaps, index, need, merge, row_of_bitmaps, is_index, row_of_index}
 use Rattle.wavelet.proofs.Strings.{begins-trans, begins-bit, begins-next, begins-one, begins-append, begins-by}
 use Rattle.wavelet.proofs.Trees.{Under, Has, has-begins, need-none}
-use Rattle.wavelet.proofs.Trees.{afterZero, zeroSide, oneSide, node-fits, row-length, row_has, zero-length, one-length}
+use Rattle.wavelet.proofs.Trees.{after_zero, zero_side_row, one_side_row, node-fits, row-length, row_has, zero-length, one-length}
 
 -- the codeword of n begins with q
 abbrev goes : ℕ → List Bool → ℕ → Bool
-goes m q n = isPrefix q (codeword m n)
+goes m q n = is_prefix q (codeword m n)
 
 -- the numbers of a row of which that holds
 abbrev pub at : ℕ → List Bool → List ℕ → List ℕ
@@ -81,30 +81,30 @@ parts f g h (true ∷ b) z (x ∷ o) hz ho az ao =
     )
 
 -- the bit after p of the codeword of n
-abbrev bitAfter : ℕ → List Bool → ℕ → Bool
-bitAfter m p n = get_or (codeword m n) (length p) false
+abbrev bit_after : ℕ → List Bool → ℕ → Bool
+bit_after m p n = get_or (codeword m n) (length p) false
 
 -- n is on the side of p that this bit says
 abbrev pub Sided : ℕ → List Bool → ℕ → Type 0
-Sided m p n = By (bitAfter m p) (goes m (p ++ (false ∷ []))) (goes m (p ++ (true ∷ []))) n
+Sided m p n = By (bit_after m p) (goes m (p ++ (false ∷ []))) (goes m (p ++ (true ∷ []))) n
 
-sided-by : (m : ℕ) (p : List Bool) (n : ℕ) (a : Bool) → isPrefix (p ++ (a ∷ [])) (codeword m n) ≡ true → Sided m p n × (bitAfter m p n ≡ a)
+sided-by : (m : ℕ) (p : List Bool) (n : ℕ) (a : Bool) → is_prefix (p ++ (a ∷ [])) (codeword m n) ≡ true → Sided m p n × (bit_after m p n ≡ a)
 sided-by m p n a e = (go a e (begins-bit p (codeword m n) a e), begins-bit p (codeword m n) a e)
   where
     other : (q : List Bool) → (goes m q n ≡ true → ⊥) → (v : Bool) → goes m q n ≡ v → goes m q n ≡ false
     other q none true e = absurd (none e)
     other q none false e = e
 
-    go : (a : Bool) → isPrefix (p ++ (a ∷ [])) (codeword m n) ≡ true → bitAfter m p n ≡ a → Sided m p n
+    go : (a : Bool) → is_prefix (p ++ (a ∷ [])) (codeword m n) ≡ true → bit_after m p n ≡ a → Sided m p n
     go false e d = rw d (e, other (p ++ (true ∷ [])) (begins-one p (codeword m n) e) _ refl)
     go true e d = rw d (other (p ++ (false ∷ [])) (λ f. begins-one p (codeword m n) f e) _ refl, e)
 
 -- so is every number whose codeword goes on after p
-pub sided-longer : (m : ℕ) (p : List Bool) (n : ℕ) → isPrefix p (codeword m n) ≡ true → length p < length (codeword m n) → Sided m p n
-sided-longer m p n e l = (sided-by m p n (bitAfter m p n) (begins-next p (codeword m n) (bitAfter m p n) e l refl)).0
+pub sided-longer : (m : ℕ) (p : List Bool) (n : ℕ) → is_prefix p (codeword m n) ≡ true → length p < length (codeword m n) → Sided m p n
+sided-longer m p n e l = (sided-by m p n (bit_after m p n) (begins-next p (codeword m n) (bit_after m p n) e l refl)).0
 
 -- what passes the test of a longer string passes that of a shorter one
-at-below : (m : ℕ) (q p : List Bool) → isPrefix q p ≡ true → (row : List ℕ) → at m p (at m q row) ≡ at m p row
+at-below : (m : ℕ) (q p : List Bool) → is_prefix q p ≡ true → (row : List ℕ) → at m p (at m q row) ≡ at m p row
 at-below m q p e = filter-within (goes m p) (goes m q) (λ n. begins-trans q p (codeword m n) e)
 
 at_side : (m : ℕ) (p : List Bool) (a : Bool) (row : List ℕ) → at m (p ++ (a ∷ [])) (at m p row) ≡ at m (p ++ (a ∷ [])) row
@@ -112,7 +112,7 @@ at_side m p a = at-below m p (p ++ (a ∷ [])) (begins-append p (a ∷ []))
 
 bitmap-length : (m : ℕ) (p : List Bool) (row : List ℕ) → length (bitmap m row p) ≡ length (at m p row)
 unfolding bitmap
-bitmap-length m p row = length-map (at m p row) (bitAfter m p)
+bitmap-length m p row = length-map (at m p row) (bit_after m p)
 
 -- the numbers below a node are those on its sides, merged by its bitmap
 at-sides : (m : ℕ) (p : List Bool) (row : List ℕ) → All (Sided m p) (at m p row)
@@ -121,7 +121,7 @@ at-sides : (m : ℕ) (p : List Bool) (row : List ℕ) → All (Sided m p) (at m 
 unfolding bitmap
 at-sides m p row a =
     rw (at_side m p false row, at_side m p true row) at
-    (sides (bitAfter m p) (goes m (p ++ (false ∷ []))) (goes m (p ++ (true ∷ []))) (at m p row) a)
+    (sides (bit_after m p) (goes m (p ++ (false ∷ []))) (goes m (p ++ (true ∷ []))) (at m p row) a)
 
 -- ## At a node
 
@@ -130,10 +130,10 @@ unfolding joined nodes flatten
 joined-node m p z o row = ap (λ (l : List Bool). bitmap m row p ++ l) (flatten-map-append (bitmap m row) (nodes z) (nodes o))
 
 module _ (m : ℕ) (q p : List Bool) (z o : Tree) (u : Under m q (node p z o)) where
-  zero-sided : (n : ℕ) → Has z n → Sided m p n × (bitAfter m p n ≡ false)
+  zero-sided : (n : ℕ) → Has z n → Sided m p n × (bit_after m p n ≡ false)
   zero-sided n h = sided-by m p n false (has-begins m (p ++ (false ∷ [])) z n u.1 h).1
 
-  one-sided : (n : ℕ) → Has o n → Sided m p n × (bitAfter m p n ≡ true)
+  one-sided : (n : ℕ) → Has o n → Sided m p n × (bit_after m p n ≡ true)
   one-sided n h = sided-by m p n true (has-begins m (p ++ (true ∷ [])) o n u.2 h).1
 
   has-sided : (n : ℕ) → Has (node p z o) n → Sided m p n
@@ -148,33 +148,33 @@ module _ (m : ℕ) (q p : List Bool) (z o : Tree) (u : Under m q (node p z o)) w
       (all_map (Has (node p z o)) _ (λ n h. (has-begins m p (node p z o) n (begins-by p [] p (append-nil p), u.1, u.2) h).1) (at m q row) a)
 
   -- the numbers of the tree on its two sides
-  zero_has : (n : ℕ) → Has (node p z o) n × (isPrefix (p ++ (false ∷ [])) (codeword m n) ≡ true) → Has z n
+  zero_has : (n : ℕ) → Has (node p z o) n × (is_prefix (p ++ (false ∷ [])) (codeword m n) ≡ true) → Has z n
   zero_has n (inl h, e) = h
   zero_has n (inr h, e) = absurd (begins-one p (codeword m n) e (has-begins m (p ++ (true ∷ [])) o n u.2 h).1)
 
-  one_has : (n : ℕ) → Has (node p z o) n × (isPrefix (p ++ (true ∷ [])) (codeword m n) ≡ true) → Has o n
+  one_has : (n : ℕ) → Has (node p z o) n × (is_prefix (p ++ (true ∷ [])) (codeword m n) ≡ true) → Has o n
   one_has n (inl h, e) = absurd (begins-one p (codeword m n) (has-begins m (p ++ (false ∷ [])) z n u.1 h).1 e)
   one_has n (inr h, e) = h
 
-  all-side : (a : Bool) (P : ℕ → Type 0) → ((n : ℕ) → Has (node p z o) n × (isPrefix (p ++ (a ∷ [])) (codeword m n) ≡ true) → P n)
+  all-side : (a : Bool) (P : ℕ → Type 0) → ((n : ℕ) → Has (node p z o) n × (is_prefix (p ++ (a ∷ [])) (codeword m n) ≡ true) → P n)
       → (row : List ℕ) → All (Has (node p z o)) (at m q row) → All P (at m (p ++ (a ∷ [])) row)
   all-side a P f row h =
       subst (All P) (at-below m q (p ++ (a ∷ [])) (begins-trans q p (p ++ (a ∷ [])) u.0 (begins-append p (a ∷ []))) row)
       (all_map _ P f (at m (p ++ (a ∷ [])) (at m q row)) (all_filter (Has (node p z o)) (goes m (p ++ (a ∷ []))) (at m q row) h))
 
   -- what bits hold below a node, found in a row that holds it
-  row-parts : (k : ℕ) (bits : List Bool) → need (node p z o) k bits ≤ length bits → (row : List ℕ) → at m q row ≡ rowOfBitmaps (node p z o) k bits
-      → (bitmap m row p ≡ take k bits) × (at m (p ++ (false ∷ [])) row ≡ zeroSide z k bits) × (at m (p ++ (true ∷ [])) row ≡ oneSide z o k bits)
-  unfolding rowOfBitmaps bitmap
+  row-parts : (k : ℕ) (bits : List Bool) → need (node p z o) k bits ≤ length bits → (row : List ℕ) → at m q row ≡ row_of_bitmaps (node p z o) k bits
+      → (bitmap m row p ≡ take k bits) × (at m (p ++ (false ∷ [])) row ≡ zero_side_row z k bits) × (at m (p ++ (true ∷ [])) row ≡ one_side_row z o k bits)
+  unfolding row_of_bitmaps bitmap
   row-parts k bits h row e =
       let fits = node-fits p z o k bits h in
-      let r : at m p row ≡ merge (take k bits) (zeroSide z k bits) (oneSide z o k bits) =
+      let r : at m p row ≡ merge (take k bits) (zero_side_row z k bits) (one_side_row z o k bits) =
       at-node row (subst (All (Has (node p z o))) (sym e) (row_has (node p z o) k bits h)) ∙ e in
-      let s = parts (bitAfter m p) (goes m (p ++ (false ∷ []))) (goes m (p ++ (true ∷ [])))
-      (take k bits) (zeroSide z k bits) (oneSide z o k bits) (zero-length m q p z o k bits u h) (one-length m q p z o k bits u h)
-      (all_map (Has z) _ zero-sided (zeroSide z k bits) (row_has z _ (drop k bits) fits.1))
-      (all_map (Has o) _ one-sided (oneSide z o k bits) (row_has o _ (afterZero z k bits) fits.2)) in (
-        ap (map (bitAfter m p)) r ∙ s.0,
+      let s = parts (bit_after m p) (goes m (p ++ (false ∷ []))) (goes m (p ++ (true ∷ [])))
+      (take k bits) (zero_side_row z k bits) (one_side_row z o k bits) (zero-length m q p z o k bits u h) (one-length m q p z o k bits u h)
+      (all_map (Has z) _ zero-sided (zero_side_row z k bits) (row_has z _ (drop k bits) fits.1))
+      (all_map (Has o) _ one-sided (one_side_row z o k bits) (row_has o _ (after_zero z k bits) fits.2)) in (
+        ap (map (bit_after m p)) r ∙ s.0,
         sym (at_side m p false row) ∙ ap (at m (p ++ (false ∷ []))) r ∙ s.1,
         sym (at_side m p true row) ∙ ap (at m (p ++ (true ∷ []))) r ∙ s.2,
       )
@@ -182,16 +182,16 @@ module _ (m : ℕ) (q p : List Bool) (z o : Tree) (u : Under m q (node p z o)) w
 -- ## From bits to a row and back
 
 pub joined-row : (m : ℕ) (q : List Bool) (t : Tree) (k : ℕ) (bits : List Bool) → Under m q t → need t k bits ≤ length bits
-    → (row : List ℕ) → at m q row ≡ rowOfBitmaps t k bits → joined m t row ≡ take (need t k bits) bits
+    → (row : List ℕ) → at m q row ≡ row_of_bitmaps t k bits → joined m t row ≡ take (need t k bits) bits
 unfolding need
 joined-row m q (leaf n) k bits u h row e = unfold joined nodes flatten in refl
 joined-row m q (node p z o) k bits u h row e =
     let fits = node-fits p z o k bits h in
     let s = row-parts m q p z o u k bits h row e in
     let a : ℕ = need z (count false (take k bits)) (drop k bits) in
-    let c : ℕ = need o (count true (take k bits)) (afterZero z k bits) in
+    let c : ℕ = need o (count true (take k bits)) (after_zero z k bits) in
     let on-zero : joined m z row ≡ take a (drop k bits) = joined-row m (p ++ (false ∷ [])) z _ (drop k bits) u.1 fits.1 row s.1 in
-    let on_one : joined m o row ≡ take c (drop a (drop k bits)) = joined-row m (p ++ (true ∷ [])) o _ (afterZero z k bits) u.2 fits.2 row s.2 in
+    let on_one : joined m o row ≡ take c (drop a (drop k bits)) = joined-row m (p ++ (true ∷ [])) o _ (after_zero z k bits) u.2 fits.2 row s.2 in
     joined-node m p z o row ∙ ap₂ (λ (x y : List Bool). x ++ y) s.0 (ap₂ (λ (x y : List Bool). x ++ y) on-zero on_one)
     ∙ sym (take-add k (a + c) bits ∙ ap (λ (l : List Bool). take k bits ++ l) (take-add a c (drop k bits)))
 
@@ -199,7 +199,7 @@ joined-row m q (node p z o) k bits u h row e =
 pub joined-none : (m : ℕ) (q : List Bool) (t : Tree) → Under m q t → (row : List ℕ) → at m q row ≡ [] → joined m t row ≡ []
 joined-none m q t u row e =
     let h : need t 0 [] ≤ 0 = omega (arith, need-none t []) in
-    joined-row m q t 0 [] u h row (e ∙ none (rowOfBitmaps t 0 []) (row-length t 0 [] h)) ∙ take-nil (need t 0 [])
+    joined-row m q t 0 [] u h row (e ∙ none (row_of_bitmaps t 0 []) (row-length t 0 [] h)) ∙ take-nil (need t 0 [])
   where
     none : (l : List ℕ) → length l ≡ 0 → [] ≡ l
     none [] e = refl
@@ -211,15 +211,15 @@ unfolding need
 need-node p z o b t = rw (take-append_seam b t, drop-append_seam b t)
 
 row-node : (p : List Bool) (z o : Tree) (b t : List Bool)
-    → rowOfBitmaps (node p z o) (length b) (b ++ t) ≡ merge b (rowOfBitmaps z (count false b) t) (rowOfBitmaps o (count true b) (drop (need z (count false b) t) t))
-unfolding rowOfBitmaps
+    → row_of_bitmaps (node p z o) (length b) (b ++ t) ≡ merge b (row_of_bitmaps z (count false b) t) (row_of_bitmaps o (count true b) (drop (need z (count false b) t) t))
+unfolding row_of_bitmaps
 row-node p z o b t = rw (take-append_seam b t, drop-append_seam b t)
 
 -- ## From a row to bits and back
 
 pub row-joined : (m : ℕ) (q : List Bool) (t : Tree) → Under m q t → (row : List ℕ) → All (Has t) (at m q row) → (rest : List Bool)
-    → (need t (length (at m q row)) (joined m t row ++ rest) ≡ length (joined m t row)) × (rowOfBitmaps t (length (at m q row)) (joined m t row ++ rest) ≡ at m q row)
-row-joined m q (leaf x) u row a rest = unfold need rowOfBitmaps joined nodes flatten in (refl, same (at m q row) a)
+    → (need t (length (at m q row)) (joined m t row ++ rest) ≡ length (joined m t row)) × (row_of_bitmaps t (length (at m q row)) (joined m t row ++ rest) ≡ at m q row)
+row-joined m q (leaf x) u row a rest = unfold need row_of_bitmaps joined nodes flatten in (refl, same (at m q row) a)
   where
     same : (l : List ℕ) → All (λ n. n ≡ x) l → replicate (length l) x ≡ l
     same [] a = refl
@@ -241,7 +241,7 @@ row-joined m q (node p z o) u row a rest =
     let no : need o (count true b) (drop (need z (count false b) t) t) ≡ length (joined m o row) = rw (after, ← s.1) io.0 in (
       ap₂ (need (node p z o)) (sym long) bits ∙ need-node p z o b t
           ∙ omega (arith, ap length (joined-node m p z o row), length-append b (joined m z row ++ joined m o row), length-append (joined m z row) (joined m o row)),
-      ap₂ (rowOfBitmaps (node p z o)) (sym long) bits ∙ row-node p z o b t
+      ap₂ (row_of_bitmaps (node p z o)) (sym long) bits ∙ row-node p z o b t
           ∙ ap₂ (merge b) (rw s.0 at iz.1) (rw (after, ← s.1) io.1) ∙ s.2 ∙ r,
     )
 
@@ -264,21 +264,21 @@ at_all m row = filter-all (goes m []) row (all row)
   where
     all : (row : List ℕ) → All (λ n. goes m [] n ≡ true) row
     all [] = tt
-    all (n ∷ row) = (unfold isPrefix in refl, all row)
+    all (n ∷ row) = (unfold is_prefix in refl, all row)
 
 -- with a tree that has the numbers 1 .. N and no others
 module _ (m N : ℕ) (u : Under m [] (tree m N)) (has : (n : ℕ) → 1 ≤ n → n ≤ N → Has (tree m N) n) (only : (n : ℕ) → Has (tree m N) n → (1 ≤ n) × (n ≤ N)) where
   -- the bitmaps of a row, with anything after them
   row_is : (row : List ℕ) → Legal N row → (rest : List Bool)
-      → (need (tree m N) (length row) (bitmaps m N row ++ rest) ≡ length (bitmaps m N row)) × (rowOfBitmaps (tree m N) (length row) (bitmaps m N row ++ rest) ≡ row)
+      → (need (tree m N) (length row) (bitmaps m N row ++ rest) ≡ length (bitmaps m N row)) × (row_of_bitmaps (tree m N) (length row) (bitmaps m N row ++ rest) ≡ row)
   unfolding bitmaps
   row_is row legal rest =
       let a : All (Has (tree m N)) row = all_map _ (Has (tree m N)) (λ n e. has n (number_is N n e).0 (number_is N n e).1) row legal in
       rw (at_all m row) at (row-joined m [] (tree m N) u row (subst (All (Has (tree m N))) (sym (at_all m row)) a) rest)
 
-  pub index-row : (row : List ℕ) → Legal N row → (isIndex m N (length row) (index m N row) ≡ true) × (rowOfIndex m N (length row) (index m N row) ≡ row)
-  unfolding index isIndex rowOfIndex
-  index-row row legal =
+  pub index_row : (row : List ℕ) → Legal N row → (is_index m N (length row) (index m N row) ≡ true) × (row_of_index m N (length row) (index m N row) ≡ row)
+  unfolding index is_index row_of_index
+  index_row row legal =
       let b : List Bool = bitmaps m N row in
       let zeros : List Bool = replicate (padding (length b)) false in
       let h = row_is row legal zeros in
@@ -286,19 +286,19 @@ module _ (m N : ℕ) (u : Under m [] (tree m N)) (has : (n : ℕ) → 1 ≤ n �
       let none : count true (drop (length b) (b ++ zeros)) ≡ 0 = ap (count true) (drop-append_seam b zeros) ∙ zeros-none (padding (length b)) in
       rw (unpack-pack b, h.0, eq-eqb _ _ few, eq-eqb _ _ none) (refl, h.1)
 
-  pub row-index : (k : ℕ) (s : List ℕ) → Bytes s → isIndex m N k s ≡ true
-      → (length (rowOfIndex m N k s) ≡ k) × Legal N (rowOfIndex m N k s) × (index m N (rowOfIndex m N k s) ≡ s)
-  unfolding index bitmaps isIndex rowOfIndex
-  row-index k s bytes e =
+  pub row_index : (k : ℕ) (s : List ℕ) → Bytes s → is_index m N k s ≡ true
+      → (length (row_of_index m N k s) ≡ k) × Legal N (row_of_index m N k s) × (index m N (row_of_index m N k s) ≡ s)
+  unfolding index bitmaps is_index row_of_index
+  row_index k s bytes e =
       let d : ℕ = need (tree m N) k (unpack s) in
       let c = both (eqb (byte_count d) (length s)) (eqb (count true (drop d (unpack s))) 0) e in
       let few : byte_count d ≡ length s = eqb-true _ _ c.0 in
       let fits : d ≤ length (unpack s) = omega (arith, unpack-length s) in
-      let row : List ℕ = rowOfBitmaps (tree m N) k (unpack s) in (
+      let row : List ℕ = row_of_bitmaps (tree m N) k (unpack s) in (
         row-length (tree m N) k (unpack s) fits,
         all_map (Has (tree m N)) _ (λ n h. is-number N n (only n h).0 (only n h).1) row (row_has (tree m N) k (unpack s) fits),
         ap pack (joined-row m [] (tree m N) k (unpack s) u fits row (at_all m row)) ∙ pack-front s d bytes few (eqb-true _ _ c.1),
       )
 
-  pub one-row : (k : ℕ) (s row : List ℕ) → Legal N row → length row ≡ k → index m N row ≡ s → row ≡ rowOfIndex m N k s
-  one-row k s row legal l e = sym (index-row row legal).1 ∙ ap₂ (rowOfIndex m N) l e
+  pub one_row : (k : ℕ) (s row : List ℕ) → Legal N row → length row ≡ k → index m N row ≡ s → row ≡ row_of_index m N k s
+  one_row k s row legal l e = sym (index_row row legal).1 ∙ ap₂ (row_of_index m N) l e

@@ -15,15 +15,15 @@ use Rattle.fibonacci.specs.Code.{F, first, codeword}
 use Rattle.calls.specs.Limits.{Order}
 use Rattle.calls.proofs.Checks.{both}
 use Rattle.fibonacci.proofs.Numeration.{F-pos}
-use Rattle.wavelet.specs.Nodes.{isPrefix, leaf, prune}
-use Rattle.wavelet.specs.Questions.{maxAlphabet}
-use Rattle.wavelet.specs.Leaves.{CursorAt, IsCursor, SomeNode, nodeTest, side_of, Ends, Starts, Closes}
+use Rattle.wavelet.specs.Nodes.{is_prefix, leaf, prune}
+use Rattle.wavelet.specs.Questions.{max_alphabet}
+use Rattle.wavelet.specs.Leaves.{CursorAt, IsCursor, SomeNode, node_test, side_of, Ends, Starts, Closes}
 use Rattle.wavelet.specs.declared.Cursor.{Cursor}
 use Rattle.wavelet.proofs.Pruned.{cursor-low, cursor-node, cursor-high, cursor-full, high-only, full-only}
 use Rattle.wavelet.proofs.Cursors.{deep, step_small}
 use Rattle.wavelet.proofs.Ends.{ends-none, ends-leaf, ends-short, ends-cut, ends_on}
 
-pub is-node : (m N : ℕ) (v : Cursor) → nodeTest m N v ≡ true → (v.ones < m) × (v.next ≤ N)
+pub is-node : (m N : ℕ) (v : Cursor) → node_test m N v ≡ true → (v.ones < m) × (v.next ≤ N)
 is-node m N v e = let b = both (ltb v.ones m) (leb v.next N) e in (ltb-true _ _ b.0, leb-true _ _ b.1)
 
 -- a string of the tree, a node of it, and its sides
@@ -32,24 +32,24 @@ is-low m N v i = cursor-low i.2
 
 -- what is looked up for the step to a side, and what it adds up
 pub step_fits : (m : ℕ) (v : Cursor) → Order m → SomeNode m v
-    → (v.depth + 1 + m ≤ 47) × (F m (v.depth + 1) ≤ maxAlphabet) × (v.next ≤ maxAlphabet) × (v.ones < m)
+    → (v.depth + 1 + m ≤ 47) × (F m (v.depth + 1) ≤ max_alphabet) × (v.next ≤ max_alphabet) × (v.ones < m)
 step_fits m v o s =
     let n = is-node m s.0 v s.3 in
     let low = is-low m s.0 v s.2 in
-    let high : v.next ≤ maxAlphabet = omega (arith, n.1, s.1) in
+    let high : v.next ≤ max_alphabet = omega (arith, n.1, s.1) in
     (deep m v.depth v.next o low high, step_small m v.depth v.next o low high, high, n.0)
 
-pub side-cursor : (m N : ℕ) (v : Cursor) (one : Bool) {u : Cursor} → IsCursor m N v → nodeTest m N v ≡ true → u ≡ side_of m v one → IsCursor m N u
+pub side-cursor : (m N : ℕ) (v : Cursor) (one : Bool) {u : Cursor} → IsCursor m N v → node_test m N v ≡ true → u ≡ side_of m v one → IsCursor m N u
 side-cursor m N v one i e made =
     let n = is-node m N v e in
     let k = cursor-node i.2 n.0 n.1 in
-    go one made (k.g, _, k.zero-side) (k.g, _, k.one_side)
+    go one made (k.g, _, k.zero_side) (k.g, _, k.one_side)
   where
     go : (one : Bool) {u : Cursor} → u ≡ side_of m v one → IsCursor m N (side_of m v false) → IsCursor m N (side_of m v true) → IsCursor m N u
     go false made z o = rw made z
     go true made z o = rw made o
 
-off-node : (m N : ℕ) (v : Cursor) → nodeTest m N v ≡ false → (m ≤ v.ones) ⊎ (N < v.next)
+off-node : (m N : ℕ) (v : Cursor) → node_test m N v ≡ false → (m ≤ v.ones) ⊎ (N < v.next)
 off-node m N v e =
     elim (dec_le m v.ones) [
       | yes l ↦ inl l
@@ -60,12 +60,12 @@ off-node m N v e =
           ]
     ]
 
-pub is_leaf : (m N : ℕ) (v : Cursor) → nodeTest m N v ≡ false → (f : ℕ) (q : List Bool) → CursorAt m N f q v → prune m N f q ≡ leaf v.number
+pub is_leaf : (m N : ℕ) (v : Cursor) → node_test m N v ≡ false → (f : ℕ) (q : List Bool) → CursorAt m N f q v → prune m N f q ≡ leaf v.number
 is_leaf m N v e f q h = ⊎_elim (cursor-full h) (cursor-high h) (off-node m N v e)
 
 -- at a leaf only its number is left
-pub leaf-only : {m N f : ℕ} {q : List Bool} {v : Cursor} → CursorAt m N f q v → nodeTest m N v ≡ false → (n : ℕ) → 1 ≤ n → n ≤ N
-    → isPrefix q (codeword m n) ≡ true → n ≡ v.number
+pub leaf-only : {m N f : ℕ} {q : List Bool} {v : Cursor} → CursorAt m N f q v → node_test m N v ≡ false → (n : ℕ) → 1 ≤ n → n ≤ N
+    → is_prefix q (codeword m n) ≡ true → n ≡ v.number
 leaf-only {m} {N} {v = v} h e n a b g = ⊎_elim (λ l. full-only h l n a g) (λ l. high-only h l n a b g) (off-node m N v e)
 
 module _ (m N : ℕ) (v : Cursor) (k : ℕ) (s : List ℕ) (at : ℕ) (here : at ≤ 8 * length s) where
@@ -75,10 +75,10 @@ module _ (m N : ℕ) (v : Cursor) (k : ℕ) (s : List ℕ) (at : ℕ) (here : at
   pub end_none : k ≡ 0 → Ends m N v k s at at
   end_none e f q h = rw e (ends-none (prune m N f q) (unpack s) at inside)
 
-  pub end-leaf : nodeTest m N v ≡ false → Ends m N v k s at at
+  pub end-leaf : node_test m N v ≡ false → Ends m N v k s at at
   end-leaf e f q h = rw (is_leaf m N v e f q h) (ends-leaf v.number k (unpack s) at inside)
 
-  module _ (e : nodeTest m N v ≡ true) where
+  module _ (e : node_test m N v ≡ true) where
     -- its bitmap runs past the bits
     pub end_short : length s * 8 - at < k → Ends m N v k s at (length s * 8 + 1)
     end_short l f q h =
@@ -87,8 +87,8 @@ module _ (m N : ℕ) (v : Cursor) (k : ℕ) (s : List ℕ) (at : ℕ) (here : at
 
     module _ (fits : at + k ≤ 8 * length s) (c : ℕ) (ones : c ≡ count true (take k (drop at (unpack s)))) (mid : ℕ)
         (x : Cursor) (made : x ≡ side_of m v false) (ending : Ends m N x (k - c) s (at + k) mid) where
-      zero-side : Ends m N (side_of m v false) (k - c) s (at + k) mid
-      zero-side = subst (λ (x : Cursor). Ends m N x (k - c) s (at + k) mid) made ending
+      zero_side : Ends m N (side_of m v false) (k - c) s (at + k) mid
+      zero_side = subst (λ (x : Cursor). Ends m N x (k - c) s (at + k) mid) made ending
 
       in-bits : at + k ≤ length (unpack s)
       in-bits = omega (arith, unpack-length s)
@@ -97,14 +97,14 @@ module _ (m N : ℕ) (v : Cursor) (k : ℕ) (s : List ℕ) (at : ℕ) (here : at
       pub end-cut : length s * 8 < mid → Ends m N v k s at mid
       end-cut l f q h =
           let t = cursor-node h (is-node m N v e).0 (is-node m N v e).1 in
-          rw t.tree_is (ends-cut q _ _ k (unpack s) at c in-bits ones mid (zero-side t.g _ t.zero-side) (omega (arith, unpack-length s)))
+          rw t.tree_is (ends-cut q _ _ k (unpack s) at c in-bits ones mid (zero_side t.g _ t.zero_side) (omega (arith, unpack-length s)))
 
       -- all ends where its 1 side does
       pub end_on : mid ≤ length s * 8 → (r : ℕ) (y : Cursor) → y ≡ side_of m v true → Ends m N y c s mid r → Ends m N v k s at r
       end_on l r y e2 last f q h =
           let t = cursor-node h (is-node m N v e).0 (is-node m N v e).1 in
           subst (λ (y : Cursor). Ends m N y c s mid r) e2 last t.g _ t.one_side
-          ∙ rw t.tree_is (ends_on q _ _ k (unpack s) at c in-bits ones mid (zero-side t.g _ t.zero-side) (omega (arith, unpack-length s)))
+          ∙ rw t.tree_is (ends_on q _ _ k (unpack s) at c in-bits ones mid (zero_side t.g _ t.zero_side) (omega (arith, unpack-length s)))
 
 -- where the bitmaps of a side start, and where all end once those of a side do
 module _ (m N : ℕ) (v : Cursor) (c : ℕ) (s : List ℕ) (at : ℕ) (one : Bool) where

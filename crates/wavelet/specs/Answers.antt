@@ -4,6 +4,6 @@ use Rattle.calls.specs.Calls.{Outcome, accepted, refused}
 use Rattle.wavelet.specs.declared.QuestionAnswer.{QuestionAnswer}
 use Rattle.wavelet.specs.declared.QuestionAnswer.TheVariants.{Answered, Refused}
 
-abbrev pub questionOutcome : QuestionAnswer → Outcome (ℕ × ℕ)
-questionOutcome (Answered result visits) = accepted (result, visits)
-questionOutcome (Refused r) = refused r
+abbrev pub question_outcome : QuestionAnswer → Outcome (ℕ × ℕ)
+question_outcome (Answered result visits) = accepted (result, visits)
+question_outcome (Refused r) = refused r

@@ -4,13 +4,13 @@ use mathlib.Core.List.{List, [], ◌∷◌, map, flatten}
 use Rattle.lists.specs.Lists.{filter}
 use Rattle.bits.specs.Bits.{unpack, byte_count, pack, count}
 use Rattle.fibonacci.specs.Code.{codeword}
-use Rattle.wavelet.specs.Nodes.{isPrefix, Tree, leaf, node, tree, nodes}
+use Rattle.wavelet.specs.Nodes.{is_prefix, Tree, leaf, node, tree, nodes}
 
 -- ## From a row to bits
 
 -- The bitmap of a node p: for each row number whose codeword begins with p, in row order, the next bit
 unfoldable pub bitmap : ℕ → List ℕ → List Bool → List Bool
-bitmap m row p = map (λ n. get_or (codeword m n) (length p) false) (filter (λ n. isPrefix p (codeword m n)) row)
+bitmap m row p = map (λ n. get_or (codeword m n) (length p) false) (filter (λ n. is_prefix p (codeword m n)) row)
 
 -- The bitmaps of a tree's nodes, joined in their order
 unfoldable pub joined : ℕ → Tree → List ℕ → List Bool
@@ -41,21 +41,21 @@ merge (false ∷ b) z o = get_or z 0 0 ∷ merge b (drop 1 z) o
 merge (true ∷ b) z o = get_or o 0 0 ∷ merge b z (drop 1 o)
 
 -- The k numbers that bitmaps hold
-unfoldable pub rowOfBitmaps : Tree → ℕ → List Bool → List ℕ
-rowOfBitmaps (leaf n) k b = replicate k n
-rowOfBitmaps (node p z o) k b =
+unfoldable pub row_of_bitmaps : Tree → ℕ → List Bool → List ℕ
+row_of_bitmaps (leaf n) k b = replicate k n
+row_of_bitmaps (node p z o) k b =
     merge (take k b)
-    (rowOfBitmaps z (count false (take k b)) (drop k b))
-    (rowOfBitmaps o (count true (take k b)) (drop (need z (count false (take k b)) (drop k b)) (drop k b)))
+    (row_of_bitmaps z (count false (take k b)) (drop k b))
+    (row_of_bitmaps o (count true (take k b)) (drop (need z (count false (take k b)) (drop k b)) (drop k b)))
 
 -- Bytes are exactly as many as n bits need, and the padding holds no one
 abbrev pub exact : ℕ → List ℕ → Bool
 exact n s = eqb (byte_count n) (length s) && eqb (count true (drop n (unpack s))) 0
 
 -- The bytes are exactly as many as the bitmaps of k numbers need, and the padding holds no one
-unfoldable pub isIndex : ℕ → ℕ → ℕ → List ℕ → Bool
-isIndex m N k s = exact (need (tree m N) k (unpack s)) s
+unfoldable pub is_index : ℕ → ℕ → ℕ → List ℕ → Bool
+is_index m N k s = exact (need (tree m N) k (unpack s)) s
 
 -- The row of k numbers that the bytes of an index hold
-unfoldable pub rowOfIndex : ℕ → ℕ → ℕ → List ℕ → List ℕ
-rowOfIndex m N k s = rowOfBitmaps (tree m N) k (unpack s)
+unfoldable pub row_of_index : ℕ → ℕ → ℕ → List ℕ → List ℕ
+row_of_index m N k s = row_of_bitmaps (tree m N) k (unpack s)

@@ -2,23 +2,23 @@
 use Rattle.std.specs.Prelude.{◌≡◌, Bool, true, false, ◌&&◌, List, ◌∷◌, ◌++◌, ℕ, suc, ◌+◌, ◌-◌, ◌*◌, ◌≤◌, ◌<◌, min, leb, ltb, length, get_or, drop}
 use Rattle.lists.specs.Lists.{filter}
 use Rattle.bits.specs.Bits.{bit_of, unpack}
-use Rattle.calls.specs.Limits.{is_order, is_number, maxCount}
+use Rattle.calls.specs.Limits.{is_order, is_number, max_count}
 use Rattle.fibonacci.specs.Code.{F, ones, Codeword, number, codeword}
 use Rattle.fibonacci.specs.Leaves.{Positions}
-use Rattle.wavelet.specs.Nodes.{isPrefix, Tree, prune, nodes}
+use Rattle.wavelet.specs.Nodes.{is_prefix, Tree, prune, nodes}
 use Rattle.wavelet.specs.Bitmaps.{need}
-use Rattle.wavelet.specs.Questions.{maxAlphabet}
+use Rattle.wavelet.specs.Questions.{max_alphabet}
 use Rattle.wavelet.specs.declared.Cursor.{Cursor}
 
 -- How many bytes an index has at most; that none has more is a law (`index-long`)
-abbrev pub maxIndexBytes : ℕ
-maxIndexBytes = 8192
+abbrev pub max_index_bytes : ℕ
+max_index_bytes = 8192
 
 -- A legal order, alphabet and length: the check of them has passed
 pub record Passed (m N k : ℕ) : Type 0 where
   pub order : is_order m ≡ true
-  pub alphabet : is_number maxAlphabet N ≡ true
-  pub count : k ≤ maxCount
+  pub alphabet : is_number max_alphabet N ≡ true
+  pub count : k ≤ max_count
 
 -- ## A string of the tree
 
@@ -34,7 +34,7 @@ pub record Describes (m N f : ℕ) (q : List Bool) (s w r c : ℕ) : Type 0 wher
   pub number_is : number m (q ++ ones k) ≡ c
   pub small : c ≤ N
   -- with a 0 and m ones more it is that of w
-  pub next-is : number m (q ++ (false ∷ ones m)) ≡ w
+  pub next_is : number m (q ++ (false ∷ ones m)) ≡ w
   -- so the codewords that q begins have at most f bits more
   pub fuel : (suc N - w) + m ≤ f
 
@@ -51,12 +51,12 @@ abbrev pub IsCursor : ℕ → ℕ → Cursor → Type 0
 IsCursor m N v = (f : ℕ) × (q : List Bool) × CursorAt m N f q v
 
 -- The test of a node
-abbrev pub nodeTest : ℕ → ℕ → Cursor → Bool
-nodeTest m N v = ltb v.ones m && leb v.next N
+abbrev pub node_test : ℕ → ℕ → Cursor → Bool
+node_test m N v = ltb v.ones m && leb v.next N
 
 -- A node of the tree of some alphabet
 abbrev pub SomeNode : ℕ → Cursor → Type 0
-SomeNode m v = (N : ℕ) × (N ≤ maxAlphabet) × IsCursor m N v × (nodeTest m N v ≡ true)
+SomeNode m v = (N : ℕ) × (N ≤ max_alphabet) × IsCursor m N v × (node_test m N v ≡ true)
 
 -- What a bit chooses of two
 abbrev pub side : {A : Type 0} → Bool → A → A → A
@@ -72,11 +72,11 @@ side_of m v true = record { depth = v.depth + 1; next = v.next + F m (v.depth + 
 
 -- What a walk has shown where it looks at the bitmaps below a string of the tree, which start at bit `at`
 abbrev pub Ready : ℕ → ℕ → Cursor → List ℕ → List ℕ → ℕ → Type 0
-Ready m N v positions s at = Positions m positions × (N ≤ maxAlphabet) × IsCursor m N v × (length s ≤ maxIndexBytes) × (at ≤ 8 * length s)
+Ready m N v positions s at = Positions m positions × (N ≤ max_alphabet) × IsCursor m N v × (length s ≤ max_index_bytes) × (at ≤ 8 * length s)
 
 -- .. and where it goes on to a side: the string is a node whose own bitmap, of k bits of which e are ones, is in the bytes
 abbrev pub NodeReady : ℕ → ℕ → Cursor → ℕ → ℕ → List ℕ → List ℕ → ℕ → Type 0
-NodeReady m N v k e positions s at = Ready m N v positions s at × (nodeTest m N v ≡ true) × (at + k ≤ 8 * length s) × (e ≤ k)
+NodeReady m N v k e positions s at = Ready m N v positions s at × (node_test m N v ≡ true) × (at + k ≤ 8 * length s) × (e ≤ k)
 
 -- Where the bitmaps of k numbers end that start at bit `at`; one more than there are bits where they run past them
 unfoldable pub ends : Tree → ℕ → List Bool → ℕ → ℕ
@@ -99,8 +99,8 @@ Closes m N v e s at true r = r ≡ at
 -- ## A number's codeword
 
 -- How many nodes of a tree begin the codeword of n; in the whole tree these are the visits of n, which is a law (`visits-tree`)
-abbrev pub visitsIn : ℕ → Tree → ℕ → ℕ
-visitsIn m t n = length (filter (λ p. isPrefix p (codeword m n)) (nodes t))
+abbrev pub visits_in : ℕ → Tree → ℕ → ℕ
+visits_in m t n = length (filter (λ p. is_prefix p (codeword m n)) (nodes t))
 
 -- x has the bits of the codeword of n from the top of 32 bits on, and then zeros
 abbrev pub Aligned : ℕ → ℕ → ℕ → Type 0

@@ -1,12 +1,12 @@
 // The pruned Wavelet tree of the row index, walked: nothing of it is stored, as it follows from the order and the alphabet.
 ghost use Rattle.std.specs.Prelude.{◌≡◌, true, ◌-◌, ◌≤◌, ◌<◌};
 ghost use Rattle.bits.specs.Bits.{bit_of};
-ghost use Rattle.calls.specs.Calls.{accepted, countOutcome};
+ghost use Rattle.calls.specs.Calls.{accepted, count_outcome};
 ghost use Rattle.calls.specs.Limits.{is_number};
 ghost use Rattle.fibonacci.specs.Leaves.{Positions};
 ghost use Rattle.codewords.specs.Leaves.{Tables};
-ghost use Rattle.wavelet.specs.Questions.{maxAlphabet, checkTree};
-ghost use Rattle.wavelet.specs.Leaves.{SomeNode, nodeTest, side_of, Aligned, Root};
+ghost use Rattle.wavelet.specs.Questions.{max_alphabet, check_tree};
+ghost use Rattle.wavelet.specs.Leaves.{SomeNode, node_test, side_of, Aligned, Root};
 
 use calls::{CountAnswer, Refusal};
 
@@ -37,7 +37,7 @@ pub struct Cursor {
 
 // The check that building and the questions begin with, of a row of `len` numbers up to `alphabet`; its result is the alphabet.
 pub fn check(order: usize, alphabet: u32, len: usize) -> CountAnswer
-    ensures { countOutcome result ≡ checkTree order alphabet len (accepted alphabet) }
+    ensures { count_outcome result ≡ check_tree order alphabet len (accepted alphabet) }
 {
     if !calls::is_order(order) {
         return CountAnswer::Refused(Refusal::BadOrder);
@@ -65,7 +65,7 @@ pub fn root() -> Cursor
 
 // Whether a string is a node of the tree of 1 .. limit.
 pub fn is_node(order: usize, limit: u64, v: Cursor) -> bool
-    ensures { result ≡ nodeTest order limit v }
+    ensures { result ≡ node_test order limit v }
 {
     v.ones < order && v.next <= limit
 }
@@ -105,7 +105,7 @@ pub fn aligned_codeword(
     order: usize,
     n: u64,
 ) -> u32
-    requires { Tables order positions.now firsts.now low.now × (1 ≤ n) × (n ≤ maxAlphabet) }
+    requires { Tables order positions.now firsts.now low.now × (1 ≤ n) × (n ≤ max_alphabet) }
     ensures { Aligned order n result }
 {
     let word = codewords::coded(positions, firsts, low, order, n);
@@ -116,7 +116,7 @@ pub fn aligned_codeword(
 // bitmap and so shows whether the bytes are an index, and then the question refuses n.
 // Requires: the position values of the order, and an alphabet up to 4,096, both of which the walk of a question has checked.
 pub fn target_codeword(positions: &[u32; 47], order: usize, limit: u64, n: u64) -> u32
-    requires { Positions order positions.now × (limit ≤ maxAlphabet) }
+    requires { Positions order positions.now × (limit ≤ max_alphabet) }
     ensures { is_number limit n ≡ true → Aligned order n result }
 {
     if !calls::is_number(n, limit) {

@@ -16,10 +16,10 @@ use Rattle.bits.proofs.Count.{count-le}
 use Rattle.codes.specs.Rows.{Positive}
 use Rattle.fibonacci.specs.Code.{first, codeword}
 use Rattle.calls.specs.Limits.{Order}
-use Rattle.wavelet.specs.Nodes.{isPrefix, Tree, prune, tree, nodes}
+use Rattle.wavelet.specs.Nodes.{is_prefix, Tree, prune, tree, nodes}
 use Rattle.wavelet.specs.Bitmaps.{bitmap, joined, bitmaps}
-use Rattle.wavelet.specs.Questions.{maxAlphabet}
-use Rattle.wavelet.specs.Leaves.{Passed, CursorAt, IsCursor, Aligned, side_of, Root, nodeTest}
+use Rattle.wavelet.specs.Questions.{max_alphabet}
+use Rattle.wavelet.specs.Leaves.{Passed, CursorAt, IsCursor, Aligned, side_of, Root, node_test}
 use Rattle.wavelet.specs.declared.Cursor.{Cursor}
 use Rattle.wavelet.proofs.Strings.{begins-front}
 use Rattle.wavelet.proofs.Pruned.{cursor-node, cursor-longer}
@@ -28,13 +28,13 @@ use Rattle.wavelet.proofs.Walking.{is-node, is_leaf}
 use Rattle.wavelet.proofs.Nodes.{cursor-under}
 use Rattle.wavelet.proofs.Rows.{at, at_all, Sided, sided-longer, joined-node, joined-none}
 use Rattle.wavelet.proofs.Answering.{at-root}
-use Rattle.wavelet_bitmaps.specs.Leaves.{AllAligned, bitAfter, partitioned, room, HasWords, WritesSubtree, HasRow, WritesBitmaps}
+use Rattle.wavelet_bitmaps.specs.Leaves.{AllAligned, bit_after, partitioned, room, HasWords, WritesSubtree, HasRow, WritesBitmaps}
 use Rattle.bits.proofs.Count.{filter-count}
 
 -- ## The room that bitmaps take
 
 -- a node has fewer than 16 bits
-pub node-depth : (m s w : ℕ) → Order m → first m (s + 1) ≤ w → w ≤ maxAlphabet → s < 16
+pub node-depth : (m s w : ℕ) → Order m → first m (s + 1) ≤ w → w ≤ max_alphabet → s < 16
 node-depth m s w o low h = omega (arith, shallow m (s + 1) o (omega arith))
 
 -- a node's bitmap, and what is left for its sides
@@ -58,7 +58,7 @@ side-depth m v u true e = ap (λ (w : Cursor). w.depth) e
 -- ## Words and the numbers whose codewords they have
 
 -- the bits of the words are those of the codewords
-aligned-bits : (m s : ℕ) (l xs : List ℕ) → s < 32 → AllAligned m l xs → map (bitAfter s) xs ≡ map (λ n. get_or (codeword m n) s false) l
+aligned-bits : (m s : ℕ) (l xs : List ℕ) → s < 32 → AllAligned m l xs → map (bit_after s) xs ≡ map (λ n. get_or (codeword m n) s false) l
 aligned-bits m s [] [] h p = refl
 aligned-bits m s [] (x ∷ xs) h p = absurd p
 aligned-bits m s (n ∷ l) [] h p = absurd p
@@ -100,66 +100,66 @@ module _ (m N : ℕ) (v : Cursor) (xs : List ℕ) (at : ℕ) (b : List ℕ) wher
       nothing (prune m N f q) row (joined-none m q (prune m N f q) (cursor-under w.0) row (aligned-none m _ xs e w.2))
 
   -- a leaf has none
-  pub subtree-leaf : nodeTest m N v ≡ false → WritesSubtree m N v xs at b at b
+  pub subtree-leaf : node_test m N v ≡ false → WritesSubtree m N v xs at b at b
   unfolding joined nodes flatten
   subtree-leaf e f q row w = nothing (prune m N f q) row (ap (λ (t : Tree). joined m t row) (is_leaf m N v e f q w.0))
 
 -- ## A node
 
 -- the sides of partitioned words
-module _ (s : ℕ) (xs : List ℕ) (z : ℕ) (e : z ≡ count false (map (bitAfter s) xs)) where
-  zeros-long : length (filter (λ x. not (bitAfter s x)) xs) ≡ z
-  zeros-long = filter-count (bitAfter s) xs ∙ sym e
+module _ (s : ℕ) (xs : List ℕ) (z : ℕ) (e : z ≡ count false (map (bit_after s) xs)) where
+  zeros-long : length (filter (λ x. not (bit_after s x)) xs) ≡ z
+  zeros-long = filter-count (bit_after s) xs ∙ sym e
 
   -- how many have a 0, those, and the others
   pub partitioned-few : z ≤ length xs
-  partitioned-few = omega (arith, e, count-le false (map (bitAfter s) xs), length-map xs (bitAfter s))
+  partitioned-few = omega (arith, e, count-le false (map (bit_after s) xs), length-map xs (bit_after s))
 
-  pub partitioned-zeros : take z (partitioned s xs) ≡ filter (λ x. not (bitAfter s x)) xs
-  partitioned-zeros = take_at (filter (λ x. not (bitAfter s x)) xs) (filter (bitAfter s) xs) z zeros-long
+  pub partitioned-zeros : take z (partitioned s xs) ≡ filter (λ x. not (bit_after s x)) xs
+  partitioned-zeros = take_at (filter (λ x. not (bit_after s x)) xs) (filter (bit_after s) xs) z zeros-long
 
-  pub partitioned-ones : drop z (partitioned s xs) ≡ filter (bitAfter s) xs
-  partitioned-ones = drop_at (filter (λ x. not (bitAfter s x)) xs) (filter (bitAfter s) xs) z zeros-long
+  pub partitioned-ones : drop z (partitioned s xs) ≡ filter (bit_after s) xs
+  partitioned-ones = drop_at (filter (λ x. not (bit_after s x)) xs) (filter (bit_after s) xs) z zeros-long
 
-module _ (m N : ℕ) (v : Cursor) (xs : List ℕ) (test : nodeTest m N v ≡ true) (short : v.depth < 16) where
-  module _ (f : ℕ) (q : List Bool) (row : List ℕ) (pos : Positive row) (h : CursorAt m N f q v) (p : AllAligned m (filter (λ n. isPrefix q (codeword m n)) row) xs) where
+module _ (m N : ℕ) (v : Cursor) (xs : List ℕ) (test : node_test m N v ≡ true) (short : v.depth < 16) where
+  module _ (f : ℕ) (q : List Bool) (row : List ℕ) (pos : Positive row) (h : CursorAt m N f q v) (p : AllAligned m (filter (λ n. is_prefix q (codeword m n)) row) xs) where
     -- every number there is on a side of q
     sided : All (Sided m q) (at m q row)
     sided =
         all_map _ (Sided m q) (λ n x. sided-longer m q n x.1 (cursor-longer h (is-node m N v test).0 n x.0 x.1))
-        (at m q row) (all_filter (λ n. 1 ≤ n) (λ n. isPrefix q (codeword m n)) row pos)
+        (at m q row) (all_filter (λ n. 1 ≤ n) (λ n. is_prefix q (codeword m n)) row pos)
 
     -- the words' bits are the node's bitmap
-    bits_are : map (bitAfter v.depth) xs ≡ bitmap m row q
+    bits_are : map (bit_after v.depth) xs ≡ bitmap m row q
     unfolding bitmap
     bits_are =
         aligned-bits m v.depth (at m q row) xs (omega arith) p
         ∙ ap (λ (s : ℕ). map (λ (n : ℕ). get_or (codeword m n) s false) (at m q row)) (sym h.long)
 
     -- a word's bit, by its number
-    bit-of : (n x : ℕ) → Aligned m n x → bitAfter v.depth x ≡ get_or (codeword m n) (length q) false
+    bit-of : (n x : ℕ) → Aligned m n x → bit_after v.depth x ≡ get_or (codeword m n) (length q) false
     bit-of n x d = d v.depth (omega arith) ∙ ap (λ (s : ℕ). get_or (codeword m n) s false) (sym h.long)
 
     -- the words on each side have the codewords of its numbers
-    zero-aligned : AllAligned m (at m (q ++ (false ∷ [])) row) (filter (λ x. not (bitAfter v.depth x)) xs)
+    zero-aligned : AllAligned m (at m (q ++ (false ∷ [])) row) (filter (λ x. not (bit_after v.depth x)) xs)
     zero-aligned =
-        subst (λ (l : List ℕ). AllAligned m l (filter (λ x. not (bitAfter v.depth x)) xs))
+        subst (λ (l : List ℕ). AllAligned m l (filter (λ x. not (bit_after v.depth x)) xs))
         (filter-within _ _ (λ n. begins-front q (codeword m n) false) row)
-        (aligned-filter m _ (λ n. isPrefix (q ++ (false ∷ [])) (codeword m n)) (Sided m q) (λ n x a d. ap not (bit-of n x d) ∙ sym a.0) (at m q row) xs sided p)
+        (aligned-filter m _ (λ n. is_prefix (q ++ (false ∷ [])) (codeword m n)) (Sided m q) (λ n x a d. ap not (bit-of n x d) ∙ sym a.0) (at m q row) xs sided p)
 
-    one-aligned : AllAligned m (at m (q ++ (true ∷ [])) row) (filter (bitAfter v.depth) xs)
+    one-aligned : AllAligned m (at m (q ++ (true ∷ [])) row) (filter (bit_after v.depth) xs)
     one-aligned =
-        subst (λ (l : List ℕ). AllAligned m l (filter (bitAfter v.depth) xs))
+        subst (λ (l : List ℕ). AllAligned m l (filter (bit_after v.depth) xs))
         (filter-within _ _ (λ n. begins-front q (codeword m n) true) row)
-        (aligned-filter m _ (λ n. isPrefix (q ++ (true ∷ [])) (codeword m n)) (Sided m q) (λ n x a d. bit-of n x d ∙ sym a.1) (at m q row) xs sided p)
+        (aligned-filter m _ (λ n. is_prefix (q ++ (true ∷ [])) (codeword m n)) (Sided m q) (λ n x a d. bit-of n x d ∙ sym a.1) (at m q row) xs sided p)
 
   -- so there are such words on each side
-  pub words-zero : HasWords m N v xs → {u : Cursor} {ys : List ℕ} → u ≡ side_of m v false → ys ≡ filter (λ x. not (bitAfter v.depth x)) xs → HasWords m N u ys
+  pub words-zero : HasWords m N v xs → {u : Cursor} {ys : List ℕ} → u ≡ side_of m v false → ys ≡ filter (λ x. not (bit_after v.depth x)) xs → HasWords m N u ys
   words-zero (f, q, row, (h, pos, p)) is_zero zs =
       let k = cursor-node h (is-node m N v test).0 (is-node m N v test).1 in
-      (k.g, q ++ (false ∷ []), row, (rw is_zero k.zero-side, pos, rw zs (zero-aligned f q row pos h p)))
+      (k.g, q ++ (false ∷ []), row, (rw is_zero k.zero_side, pos, rw zs (zero-aligned f q row pos h p)))
 
-  pub words-one : HasWords m N v xs → {u : Cursor} {ys : List ℕ} → u ≡ side_of m v true → ys ≡ filter (bitAfter v.depth) xs → HasWords m N u ys
+  pub words-one : HasWords m N v xs → {u : Cursor} {ys : List ℕ} → u ≡ side_of m v true → ys ≡ filter (bit_after v.depth) xs → HasWords m N u ys
   words-one (f, q, row, (h, pos, p)) is_one os =
       let k = cursor-node h (is-node m N v test).0 (is-node m N v test).1 in
       (k.g, q ++ (true ∷ []), row, (rw is_one k.one_side, pos, rw os (one-aligned f q row pos h p)))
@@ -167,8 +167,8 @@ module _ (m N : ℕ) (v : Cursor) (xs : List ℕ) (test : nodeTest m N v ≡ tru
   -- its bitmap from bit `at` on, then what its sides write
   module _ (at mid end : ℕ) (xz xo b0 b1 b2 b3 : List ℕ) (uz uo : Cursor)
       (is_zero : uz ≡ side_of m v false) (is_one : uo ≡ side_of m v true)
-      (zs : xz ≡ filter (λ x. not (bitAfter v.depth x)) xs) (os : xo ≡ filter (bitAfter v.depth) xs)
-      (bits : unpack b1 ≡ sets (unpack b0) at (map (bitAfter v.depth) xs))
+      (zs : xz ≡ filter (λ x. not (bit_after v.depth x)) xs) (os : xo ≡ filter (bit_after v.depth) xs)
+      (bits : unpack b1 ≡ sets (unpack b0) at (map (bit_after v.depth) xs))
       (sz : WritesSubtree m N uz xz (at + length xs) b1 mid b2) (so : WritesSubtree m N uo xo mid b2 end b3) where
     pub subtree-node : WritesSubtree m N v xs at b0 end b3
     subtree-node f q row (h, pos, p) =
@@ -178,11 +178,11 @@ module _ (m N : ℕ) (v : Cursor) (xs : List ℕ) (test : nodeTest m N v ≡ tru
         let jb : List Bool = bitmap m row q in
         let jz : List Bool = joined m tz row in
         let jo : List Bool = joined m to row in
-        let z = sz k.g (q ++ (false ∷ [])) row (rw is_zero k.zero-side, pos, rw zs (zero-aligned f q row pos h p)) in
+        let z = sz k.g (q ++ (false ∷ [])) row (rw is_zero k.zero_side, pos, rw zs (zero-aligned f q row pos h p)) in
         let o = so k.g (q ++ (true ∷ [])) row (rw is_one k.one_side, pos, rw os (one-aligned f q row pos h p)) in
         let all : joined m (prune m N f q) row ≡ jb ++ (jz ++ jo) = ap (λ (t : Tree). joined m t row) k.tree_is ∙ joined-node m q tz to row in
-        let here : map (bitAfter v.depth) xs ≡ jb = bits_are f q row pos h p in
-        let long : length jb ≡ length xs = ap length (sym here) ∙ length-map xs (bitAfter v.depth) in
+        let here : map (bit_after v.depth) xs ≡ jb = bits_are f q row pos h p in
+        let long : length jb ≡ length xs = ap length (sym here) ∙ length-map xs (bit_after v.depth) in
         let first : unpack b1 ≡ sets (unpack b0) at jb = bits ∙ ap (sets (unpack b0) at) here in
         let second : unpack b2 ≡ sets (unpack b0) at (jb ++ jz) =
         z.1 ∙ ap₂ (λ (l : List Bool) (i : ℕ). sets l (at + i) jz) first (sym long) ∙ sym (sets-append (unpack b0) at jb jz) in

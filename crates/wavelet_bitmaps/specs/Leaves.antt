@@ -6,10 +6,10 @@ use Rattle.bits.specs.Bits.{bit_of, unpack, count}
 use Rattle.codes.specs.Rows.{Positive}
 use Rattle.fibonacci.specs.Code.{codeword}
 use Rattle.fibonacci.specs.Leaves.{Positions}
-use Rattle.wavelet.specs.Nodes.{isPrefix, prune}
+use Rattle.wavelet.specs.Nodes.{is_prefix, prune}
 use Rattle.wavelet.specs.Bitmaps.{joined, bitmaps}
-use Rattle.wavelet.specs.Questions.{maxAlphabet}
-use Rattle.wavelet.specs.Leaves.{Passed, CursorAt, Aligned, maxIndexBytes}
+use Rattle.wavelet.specs.Questions.{max_alphabet}
+use Rattle.wavelet.specs.Leaves.{Passed, CursorAt, Aligned, max_index_bytes}
 use Rattle.wavelet.specs.declared.Cursor.{Cursor}
 
 -- Words that have the codewords of a row's numbers, one for each
@@ -20,12 +20,12 @@ AllAligned m (n ∷ row) [] = ⊥
 AllAligned m (n ∷ row) (x ∷ xs) = Aligned m n x × AllAligned m row xs
 
 -- The bit of a word after s others
-abbrev pub bitAfter : ℕ → ℕ → Bool
-bitAfter s x = bit_of x (31 - s)
+abbrev pub bit_after : ℕ → ℕ → Bool
+bit_after s x = bit_of x (31 - s)
 
 -- Words partitioned by that bit, each side in its order
 abbrev pub partitioned : ℕ → List ℕ → List ℕ
-partitioned s xs = filter (λ x. not (bitAfter s x)) xs ++ filter (bitAfter s) xs
+partitioned s xs = filter (λ x. not (bit_after s x)) xs ++ filter (bit_after s) xs
 
 -- What partitioning asks: fewer than 32 bits before, as many words to spare, and room for the bitmap from bit `at` on
 abbrev pub PartitionReady : ℕ → List ℕ → List ℕ → List ℕ → ℕ → Type 0
@@ -34,9 +34,9 @@ PartitionReady s words spare out at = (s < 32) × (length words ≤ length spare
 -- What it promises: how many have a 0, the words partitioned, and their bits in the output
 abbrev pub Partitions : ℕ → List ℕ → ℕ → List ℕ → ℕ → List ℕ → List ℕ → Type 0
 Partitions s words zeros words' at before after =
-    (zeros ≡ count false (map (bitAfter s) words))
+    (zeros ≡ count false (map (bit_after s) words))
     × (words' ≡ partitioned s words)
-    × (unpack after ≡ sets (unpack before) at (map (bitAfter s) words))
+    × (unpack after ≡ sets (unpack before) at (map (bit_after s) words))
 
 -- How many bits the bitmaps of k numbers take at most below a string of s bits
 abbrev pub room : ℕ → ℕ → ℕ
@@ -44,7 +44,7 @@ room s k = (16 - s) * k
 
 -- The cursor stands at the string q, and the words have the codewords of those numbers of a row whose codewords begin with q
 abbrev pub WordsAt : ℕ → ℕ → ℕ → List Bool → Cursor → List ℕ → List ℕ → Type 0
-WordsAt m N f q v row xs = CursorAt m N f q v × Positive row × AllAligned m (filter (λ n. isPrefix q (codeword m n)) row) xs
+WordsAt m N f q v row xs = CursorAt m N f q v × Positive row × AllAligned m (filter (λ n. is_prefix q (codeword m n)) row) xs
 
 -- .. of some string of the tree and some row
 abbrev pub HasWords : ℕ → ℕ → Cursor → List ℕ → Type 0
@@ -54,11 +54,11 @@ HasWords m N v xs = (f : ℕ) × (q : List Bool) × (row : List ℕ) × WordsAt 
 abbrev pub SubtreeReady : ℕ → ℕ → Cursor → List ℕ → List ℕ → List ℕ → List ℕ → ℕ → Type 0
 SubtreeReady m N v positions words spare out at =
     Positions m positions
-    × (N ≤ maxAlphabet)
+    × (N ≤ max_alphabet)
     × HasWords m N v words
     × (length words ≤ length spare)
     × (at + room v.depth (length words) ≤ 8 * length out)
-    × (length out ≤ maxIndexBytes)
+    × (length out ≤ max_index_bytes)
 
 -- What writing words below a string writes from bit `at` on, up to bit `end`: the bitmaps there of any row whose numbers below the string the words are
 abbrev pub WritesSubtree : ℕ → ℕ → Cursor → List ℕ → ℕ → List ℕ → ℕ → List ℕ → Type 0
@@ -76,7 +76,7 @@ HasRow m xs = (row : List ℕ) × Positive row × AllAligned m row xs
 
 -- What writing the bitmaps of a row asks
 abbrev pub BitmapsReady : ℕ → ℕ → List ℕ → List ℕ → List ℕ → Type 0
-BitmapsReady m N positions words out = Positions m positions × Passed m N (length words) × (length out ≡ maxIndexBytes) × HasRow m words
+BitmapsReady m N positions words out = Positions m positions × Passed m N (length words) × (length out ≡ max_index_bytes) × HasRow m words
 
 -- So from the front, for the whole tree: the bitmaps of any row whose numbers the words are, so many bits
 abbrev pub WritesBitmaps : ℕ → ℕ → List ℕ → List ℕ → ℕ → List ℕ → Type 0

@@ -1,6 +1,6 @@
 // Writing the bitmaps of a row: those below a string of the tree, a node first, then its 0 side, then its 1 side.
 ghost use Rattle.std.specs.Prelude.{◌*◌, ◌≤◌};
-ghost use Rattle.wavelet.specs.Leaves.{maxIndexBytes};
+ghost use Rattle.wavelet.specs.Leaves.{max_index_bytes};
 ghost use Rattle.wavelet_bitmaps.specs.Leaves.{PartitionReady, Partitions, SubtreeReady, SubtreePromise, BitmapsReady, WritesBitmaps};
 
 // A node: writes the next bits of the words' codewords as its bitmap from bit `at` on, and partitions the words by them, those with a 0 first; the result is
@@ -84,7 +84,7 @@ pub fn write_bitmaps(
     out: &mut [u8],
 ) -> usize
     requires { BitmapsReady order alphabet positions.now words.old out.old }
-    ensures { (result ≤ 8 * maxIndexBytes) × WritesBitmaps order alphabet words.old out.old result out.new }
+    ensures { (result ≤ 8 * max_index_bytes) × WritesBitmaps order alphabet words.old out.old result out.new }
 {
     let limit = calls::wide(alphabet);
     let mut spare: [u32; calls::MAX_COUNT] = [0; calls::MAX_COUNT];

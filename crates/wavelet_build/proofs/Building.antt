@@ -17,9 +17,9 @@ use Rattle.calls.proofs.Checks.{each-passed, each-refused}
 use Rattle.calls.specs.declared.Refusal.{Refusal}
 use Rattle.calls.specs.declared.Refusal.TheVariants.{NoRoom, OutsideAlphabet}
 use Rattle.calls.specs.Calls.{Outcome, accepted, refused, check, buffer}
-use Rattle.calls.specs.Limits.{Legal, checkEach}
+use Rattle.calls.specs.Limits.{Legal, check_each}
 use Rattle.wavelet.specs.Bitmaps.{bitmaps, index}
-use Rattle.wavelet.specs.Questions.{checkTree, build, buildInto}
+use Rattle.wavelet.specs.Questions.{check_tree, build, build_into}
 use Rattle.wavelet.specs.Leaves.{Passed}
 use Rattle.wavelet.proofs.Answering.{tree-legal, tree-refused}
 
@@ -77,21 +77,21 @@ bytes-front (x ∷ s) t h (suc i) = bytes-front s t (λ j. h (suc j)) i
 
 -- the answer, as an outcome, and the output afterwards
 abbrev Built : ℕ → ℕ → List ℕ → List ℕ → List ℕ → Outcome ℕ → Type 0
-Built m N row before after outcome = (outcome ≡ build m N row (length before)) × (after ≡ buildInto m N row before)
+Built m N row before after outcome = (outcome ≡ build m N row (length before)) × (after ≡ build_into m N row before)
 
 module _ (m N : ℕ) (row before : List ℕ) where
   answer : (outcome : Outcome ℕ) → build m N row (length before) ≡ outcome → Built m N row before (buffer outcome (index m N row) before) outcome
-  unfolding buildInto
+  unfolding build_into
   answer outcome e = (sym e, ap (λ (o : Outcome ℕ). buffer o (index m N row) before) (sym e))
 
   -- the order, the alphabet or the length
-  pub build-refused : (r : Refusal) → refused r ≡ checkTree m N (length row) (accepted N) → Built m N row before before (refused r)
+  pub build-refused : (r : Refusal) → refused r ≡ check_tree m N (length row) (accepted N) → Built m N row before before (refused r)
   unfolding build
   build-refused r e = answer (refused r) (sym (tree-refused m N (length row) e _))
 
   module _ (p : Passed m N (length row)) where
     -- a number
-    pub build-number : (r : Refusal) → refused r ≡ checkEach OutsideAlphabet N 0 row (accepted (length row)) → Built m N row before before (refused r)
+    pub build-number : (r : Refusal) → refused r ≡ check_each OutsideAlphabet N 0 row (accepted (length row)) → Built m N row before before (refused r)
     unfolding build
     build-number r e = answer (refused r) (tree-legal m N (length row) p _ ∙ each-refused OutsideAlphabet N 0 row (length row) r _ (sym e))
 

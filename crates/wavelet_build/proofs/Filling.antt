@@ -11,7 +11,7 @@ use Rattle.lists.proofs.Lists.{take_next}
 use Rattle.calls.proofs.Checks.{not-both, each_more, each-fault}
 use Rattle.calls.specs.declared.Refusal.TheVariants.{OutsideAlphabet}
 use Rattle.calls.specs.Calls.{accepted, refused}
-use Rattle.calls.specs.Limits.{is_number, checkEach}
+use Rattle.calls.specs.Limits.{is_number, check_each}
 use Rattle.wavelet.specs.Leaves.{Aligned}
 use Rattle.wavelet_bitmaps.specs.Leaves.{AllAligned}
 use Rattle.wavelet_build.specs.Leaves.{Fills}
@@ -26,7 +26,7 @@ aligned-snoc m (k ∷ l) (y ∷ xs) n x p d = (p.0, aligned-snoc m l xs n x p.1 
 -- After i numbers: none of them is at fault, and the first i words have their codewords
 abbrev pub Filling : ℕ → ℕ → List ℕ → ℕ → List ℕ → Type 0
 Filling m limit row i words =
-    (checkEach OutsideAlphabet limit 0 row (accepted (length row)) ≡ checkEach OutsideAlphabet limit i (drop i row) (accepted (length row)))
+    (check_each OutsideAlphabet limit 0 row (accepted (length row)) ≡ check_each OutsideAlphabet limit i (drop i row) (accepted (length row)))
     × AllAligned m (take i row) (take i words)
 
 -- at the start
@@ -48,6 +48,6 @@ module _ (m limit : ℕ) (row : List ℕ) (i : ℕ) (words : List ℕ) (f : Fill
 
   -- all have passed
   pub filling-end : i ≡ length row → Fills m limit row words (accepted (length row))
-  unfolding checkEach
+  unfolding check_each
   filling-end e =
       (sym (f.0 ∙ rw (drop_of_length-le row {i = i} (omega arith))), λ n a. rw (← e) (rw (take_all i row (omega arith)) at f.1))

@@ -2,10 +2,10 @@
 use Rattle.std.specs.Prelude.{◌≡◌, List, ℕ, length, take}
 use Rattle.calls.specs.declared.Refusal.TheVariants.{OutsideAlphabet}
 use Rattle.calls.specs.Calls.{Outcome, accepted}
-use Rattle.calls.specs.Limits.{checkEach}
+use Rattle.calls.specs.Limits.{check_each}
 use Rattle.wavelet_bitmaps.specs.Leaves.{AllAligned}
 
 -- Filling answers as the check of each number does, and where that accepts, the words have the numbers' codewords
 abbrev pub Fills : ℕ → ℕ → List ℕ → List ℕ → Outcome ℕ → Type 0
 Fills m N row words r =
-    (r ≡ checkEach OutsideAlphabet N 0 row (accepted (length row))) × ((n : ℕ) → r ≡ accepted n → AllAligned m row (take (length row) words))
+    (r ≡ check_each OutsideAlphabet N 0 row (accepted (length row))) × ((n : ℕ) → r ≡ accepted n → AllAligned m row (take (length row) words))

@@ -1,8 +1,8 @@
 // Building the index of a row.
 ghost use Rattle.std.specs.Prelude.{◌≤◌, length};
-ghost use Rattle.calls.specs.Calls.{countOutcome};
+ghost use Rattle.calls.specs.Calls.{count_outcome};
 ghost use Rattle.fibonacci.specs.Leaves.{Positions};
-ghost use Rattle.wavelet.specs.Questions.{maxAlphabet, BuildPromise};
+ghost use Rattle.wavelet.specs.Questions.{max_alphabet, BuildPromise};
 ghost use Rattle.wavelet_build.specs.Leaves.{Fills};
 
 use calls::{CountAnswer, Refusal};
@@ -17,8 +17,8 @@ fn fill(
     row: &[u32],
     words: &mut [u32],
 ) -> CountAnswer
-    requires { Positions order positions.now × (alphabet ≤ maxAlphabet) × (length row.now ≤ length words.old) }
-    ensures { Fills order alphabet row.now words.new (countOutcome result) }
+    requires { Positions order positions.now × (alphabet ≤ max_alphabet) × (length row.now ≤ length words.old) }
+    ensures { Fills order alphabet row.now words.new (count_outcome result) }
 {
     let firsts = fibonacci::first_numbers(order);
     let low = codewords::low_digits(order);

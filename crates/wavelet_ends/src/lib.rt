@@ -2,12 +2,12 @@
 ghost use Rattle.std.specs.Prelude.{◌≡◌, true, ◌+◌, ◌*◌, ◌≤◌, length, take, drop};
 ghost use Rattle.bits.specs.Bits.{unpack, count};
 ghost use Rattle.wavelet.specs.Bitmaps.{exact};
-ghost use Rattle.wavelet.specs.Leaves.{nodeTest, Ready, NodeReady, Ends, Starts, Closes, maxIndexBytes};
+ghost use Rattle.wavelet.specs.Leaves.{node_test, Ready, NodeReady, Ends, Starts, Closes, max_index_bytes};
 
 // How many ones the bitmap of k bits has that starts at bit `at`. Its bytes are handed on with the offset of its first bit.
 // Requires: a bitmap that does not run past the bytes, which whoever asks has seen, and at most 8,192 bytes, which the walk of a question checks.
 pub fn ones_in(b: &[u8], at: usize, k: usize) -> usize
-    requires { (at + k ≤ 8 * length b.now) × (length b.now ≤ maxIndexBytes) }
+    requires { (at + k ≤ 8 * length b.now) × (length b.now ≤ max_index_bytes) }
     ensures { (result ≡ count true (take k (drop at (unpack b.now)))) × (result ≤ k) }
 {
     let from = at / 8;
@@ -88,7 +88,7 @@ pub fn end_after(
     at: usize,
     one: bool,
 ) -> usize
-    requires { Ready order limit v positions.now b.now at × (nodeTest order limit v ≡ true) }
+    requires { Ready order limit v positions.now b.now at × (node_test order limit v ≡ true) }
     ensures { Closes order limit v ones b.now at one result }
 {
     if one {
@@ -104,7 +104,7 @@ pub fn end_after(
 // Whether bitmaps that end at bit `end` take exactly the bytes, and the padding after them holds no one.
 // Requires: at most 8,192 bytes, which the walk of a question checks.
 pub fn is_exact(b: &[u8], end: usize) -> bool
-    requires { length b.now ≤ maxIndexBytes }
+    requires { length b.now ≤ max_index_bytes }
     ensures { result ≡ exact end b.now }
 {
     let total = b.len() * 8;

@@ -14,10 +14,10 @@ use Rattle.bits.proofs.Select as bit
 use Rattle.calls.specs.declared.Refusal.{Refusal}
 use Rattle.calls.specs.declared.Refusal.TheVariants.{BadPlace, BadUse, OutsideAlphabet, TooFewUses}
 use Rattle.calls.specs.Calls.{Outcome, accepted, refused}
-use Rattle.calls.specs.Limits.{is_number, isOutside}
+use Rattle.calls.specs.Limits.{is_number, is_outside}
 use Rattle.calls.proofs.Checks.{inside-number}
-use Rattle.wavelet.specs.Bitmaps.{rowOfIndex}
-use Rattle.wavelet.specs.Questions.{uses, rankIn, selectIn, ask, extract, rank, select}
+use Rattle.wavelet.specs.Bitmaps.{row_of_index}
+use Rattle.wavelet.specs.Questions.{uses, rank_in, select_in, ask, extract, rank, select}
 use Rattle.wavelet.specs.declared.QuestionAnswer.{QuestionAnswer}
 use Rattle.wavelet.specs.declared.QuestionAnswer.TheVariants.{Answered, Refused}
 use Rattle.wavelet_walk.specs.Leaves.{Walks}
@@ -57,15 +57,15 @@ module _ (m N k : ℕ) (s : List ℕ) where
     rank-refused r go = go _
 
     module _ (r v : ℕ) (w : Walks m N k s Rank n i (Answered r v)) where
-      pub rank-number : isOutside N n ≡ true → refused (OutsideAlphabet 0) ≡ rank m N k s n i
+      pub rank-number : is_outside N n ≡ true → refused (OutsideAlphabet 0) ≡ rank m N k s n i
       unfolding rank
       rank-number e = sym (simp e) ∙ w.0 _
 
-      pub rank-place : isOutside N n ≡ false → k < i → refused BadPlace ≡ rank m N k s n i
+      pub rank-place : is_outside N n ≡ false → k < i → refused BadPlace ≡ rank m N k s n i
       unfolding rank
       rank-place e h = sym (simp (e, lt-ltb k i h)) ∙ w.0 _
 
-      pub rank-found : isOutside N n ≡ false → i ≤ k → accepted (r, v) ≡ rank m N k s n i
+      pub rank-found : is_outside N n ≡ false → i ≤ k → accepted (r, v) ≡ rank m N k s n i
       unfolding rank
       rank-found e h = ap₂ (λ (x y : ℕ). accepted (x, y)) (w.2 (inside-number N n e, h)).0 (w.2 (inside-number N n e, h)).1 ∙ sym (simp (e, le-ltb k i h)) ∙ w.0 _
 
@@ -81,11 +81,11 @@ module _ (m N k : ℕ) (s : List ℕ) where
       w : Walks m N k s Select n (j - 1) (Answered r v)
       w = rw same at walks
 
-      pub select-number : isOutside N n ≡ true → refused (OutsideAlphabet 0) ≡ select m N k s n j
+      pub select-number : is_outside N n ≡ true → refused (OutsideAlphabet 0) ≡ select m N k s n j
       unfolding select
       select-number e = sym (simp e) ∙ w.0 _
 
-      module _ (e : isOutside N n ≡ false) where
+      module _ (e : is_outside N n ≡ false) where
         legal : is_number N n ≡ true
         legal = inside-number N n e
 
@@ -94,26 +94,26 @@ module _ (m N k : ℕ) (s : List ℕ) where
         select-none z = sym (simp (e, eq-eqb j 0 z)) ∙ w.0 _
 
         module _ (some : 1 ≤ j) where
-          uses-length : length (uses n (rowOfIndex m N k s)) ≡ k
-          uses-length = length-map (rowOfIndex m N k s) (eqb n) ∙ w.1
+          uses-length : length (uses n (row_of_index m N k s)) ≡ k
+          uses-length = length-map (row_of_index m N k s) (eqb n) ∙ w.1
 
-          all-uses : rankIn (rowOfIndex m N k s) n k ≡ count true (uses n (rowOfIndex m N k s))
-          unfolding rankIn
-          all-uses = ap (λ (l : List ℕ). count true (uses n l)) (take_all k (rowOfIndex m N k s) (omega (arith, w.1)))
+          all-uses : rank_in (row_of_index m N k s) n k ≡ count true (uses n (row_of_index m N k s))
+          unfolding rank_in
+          all-uses = ap (λ (l : List ℕ). count true (uses n l)) (take_all k (row_of_index m N k s) (omega (arith, w.1)))
 
           -- the place is in the row exactly where there are j uses
-          few : k ≤ r → rankIn (rowOfIndex m N k s) n k < j
+          few : k ≤ r → rank_in (row_of_index m N k s) n k < j
           few h =
-              elim (dec_le j (count true (uses n (rowOfIndex m N k s)))) [
-                | yes l ↦ absurd (omega (arith, (w.2 legal).0, uses-length, bit.select-found true (j - 1) (uses n (rowOfIndex m N k s)) (omega arith)))
+              elim (dec_le j (count true (uses n (row_of_index m N k s)))) [
+                | yes l ↦ absurd (omega (arith, (w.2 legal).0, uses-length, bit.select-found true (j - 1) (uses n (row_of_index m N k s)) (omega arith)))
                 | no l ↦ omega (arith, all-uses)
               ]
 
-          enough : r < k → j ≤ rankIn (rowOfIndex m N k s) n k
+          enough : r < k → j ≤ rank_in (row_of_index m N k s) n k
           enough h =
-              elim (dec_le j (count true (uses n (rowOfIndex m N k s)))) [
+              elim (dec_le j (count true (uses n (row_of_index m N k s)))) [
                 | yes l ↦ omega (arith, all-uses)
-                | no l ↦ absurd (omega (arith, (w.2 legal).0, uses-length, bit.select-none true (j - 1) (uses n (rowOfIndex m N k s)) (omega arith)))
+                | no l ↦ absurd (omega (arith, (w.2 legal).0, uses-length, bit.select-none true (j - 1) (uses n (row_of_index m N k s)) (omega arith)))
               ]
 
           positive : eqb j 0 ≡ false
@@ -124,5 +124,5 @@ module _ (m N k : ℕ) (s : List ℕ) where
           select-fewer h = sym (simp (e, positive, lt-ltb _ j (few h))) ∙ w.0 _
 
           pub select-found : r < k → accepted (r, v) ≡ select m N k s n j
-          unfolding select selectIn
+          unfolding select select_in
           select-found h = ap₂ (λ (x y : ℕ). accepted (x, y)) (w.2 legal).0 (w.2 legal).1 ∙ sym (simp (e, positive, le-ltb _ j (enough h))) ∙ w.0 _

@@ -1,8 +1,8 @@
 // The three questions asked of an index, by one walk each.
 ghost use Rattle.std.specs.Prelude.{◌≡◌, ◌-◌};
-ghost use Rattle.calls.specs.Limits.{isOutside};
+ghost use Rattle.calls.specs.Limits.{is_outside};
 ghost use Rattle.wavelet.specs.Questions.{extract, rank, select};
-ghost use Rattle.wavelet.specs.Answers.{questionOutcome};
+ghost use Rattle.wavelet.specs.Answers.{question_outcome};
 
 use calls::Refusal;
 use wavelet::QuestionAnswer;
@@ -10,7 +10,7 @@ use wavelet_walk::Question;
 
 // Whether n is no number of the alphabet.
 fn is_outside(alphabet: u32, n: u32) -> bool
-    ensures { result ≡ isOutside alphabet n }
+    ensures { result ≡ is_outside alphabet n }
 {
     let limit = calls::wide(alphabet);
     let number = calls::wide(n);
@@ -26,7 +26,7 @@ fn skipped(j: usize) -> usize
 
 // The number at place i of the row of `len` numbers up to `alphabet` whose index the bytes are.
 pub fn extract(order: usize, alphabet: u32, len: usize, b: &[u8], i: usize) -> QuestionAnswer
-    ensures { questionOutcome result ≡ extract order alphabet len b.now i }
+    ensures { question_outcome result ≡ extract order alphabet len b.now i }
 {
     match wavelet_walk::walk(order, alphabet, len, b, Question::Extract, 0, i) {
         QuestionAnswer::Refused(r) => QuestionAnswer::Refused(r),
@@ -41,7 +41,7 @@ pub fn extract(order: usize, alphabet: u32, len: usize, b: &[u8], i: usize) -> Q
 
 // How often n stands among the first i numbers of that row.
 pub fn rank(order: usize, alphabet: u32, len: usize, b: &[u8], n: u32, i: usize) -> QuestionAnswer
-    ensures { questionOutcome result ≡ rank order alphabet len b.now n i }
+    ensures { question_outcome result ≡ rank order alphabet len b.now n i }
 {
     match wavelet_walk::walk(order, alphabet, len, b, Question::Rank, n, i) {
         QuestionAnswer::Refused(r) => QuestionAnswer::Refused(r),
@@ -59,7 +59,7 @@ pub fn rank(order: usize, alphabet: u32, len: usize, b: &[u8], n: u32, i: usize)
 
 // The place of the j-th use of n in that row, j from 1.
 pub fn select(order: usize, alphabet: u32, len: usize, b: &[u8], n: u32, j: usize) -> QuestionAnswer
-    ensures { questionOutcome result ≡ select order alphabet len b.now n j }
+    ensures { question_outcome result ≡ select order alphabet len b.now n j }
 {
     match wavelet_walk::walk(order, alphabet, len, b, Question::Select, n, skipped(j)) {
         QuestionAnswer::Refused(r) => QuestionAnswer::Refused(r),

@@ -10,8 +10,8 @@ use Rattle.bits.specs.Bits.{unpack, count}
 use Rattle.bits.proofs.Bytes.{unpack-length}
 use Rattle.fibonacci.specs.Code.{codeword}
 use Rattle.wavelet.specs.Nodes.{Tree, node, prune}
-use Rattle.wavelet.specs.Bitmaps.{need, rowOfBitmaps}
-use Rattle.wavelet.specs.Leaves.{CursorAt, nodeTest, side, side_of, ends, Ends, Starts, Closes}
+use Rattle.wavelet.specs.Bitmaps.{need, row_of_bitmaps}
+use Rattle.wavelet.specs.Leaves.{CursorAt, node_test, side, side_of, ends, Ends, Starts, Closes}
 use Rattle.wavelet.specs.declared.Cursor.{Cursor}
 use Rattle.wavelet.proofs.Strings.{begins-front}
 use Rattle.wavelet.proofs.Pruned.{AtNode, cursor-node, cursor-number}
@@ -20,21 +20,21 @@ use Rattle.wavelet.proofs.Trees.{Under, map-length, visits-leaf}
 use Rattle.wavelet.proofs.Ends.{mid-is}
 use Rattle.wavelet.proofs.Walking.{is-node, is_leaf, leaf-only, end-leaf, end_short, end-cut, end_on}
 use Rattle.wavelet.proofs.Sides.{count-side, row-side, before_side, place-bit, extract-side, visits-side, node-need, node-under}
-use Rattle.wavelet_walk.specs.Leaves.{answer_of, atLeaf, InView, turn, onward, back, Goes, Arrived, Finds}
+use Rattle.wavelet_walk.specs.Leaves.{answer_of, at_leaf, InView, turn, onward, back, Goes, Arrived, Finds}
 use Rattle.wavelet_walk.specs.declared.Question.{Question}
 use Rattle.wavelet_walk.specs.declared.Question.TheVariants.{Extract, Rank, Select}
 use Rattle.wavelet_walk.specs.declared.Walked.{Walked}
 use Rattle.wavelet_walk.proofs.Questions.{answer-same, answer-side, goes-side}
 
 -- the walk's number at a leaf
-leaf-goes : (question : Question) {m N f : ℕ} {q : List Bool} {v : Cursor} → CursorAt m N f q v → nodeTest m N v ≡ false → (x n : ℕ) → Goes question m N q x n → v.number ≡ n
+leaf-goes : (question : Question) {m N f : ℕ} {q : List Bool} {v : Cursor} → CursorAt m N f q v → node_test m N v ≡ false → (x n : ℕ) → Goes question m N q x n → v.number ≡ n
 leaf-goes Extract h e x n g = absurd g
 leaf-goes Rank h e x n g = sym (leaf-only h e n g.1 g.2 g.3)
 leaf-goes Select h e x n g = sym (leaf-only h e n g.1 g.2 g.3)
 
 module _ (m N : ℕ) (v : Cursor) (k : ℕ) (s : List ℕ) (at : ℕ) (question : Question) (x i : ℕ) (here : at ≤ 8 * length s) (view : InView question i k) where
   -- a leaf
-  pub find-leaf : nodeTest m N v ≡ false → (p : ℕ) → p ≡ atLeaf question v.number k i → Finds m N v k s at question x i (record { end = at; result = p; visits = v.depth })
+  pub find-leaf : node_test m N v ≡ false → (p : ℕ) → p ≡ at_leaf question v.number k i → Finds m N v k s at question x i (record { end = at; result = p; visits = v.depth })
   find-leaf e p is = (
     end-leaf m N v k s at here e,
     λ (l : at ≤ 8 * length s) (f : ℕ) (q : List Bool) (h : CursorAt m N f q v).
@@ -45,10 +45,10 @@ module _ (m N : ℕ) (v : Cursor) (k : ℕ) (s : List ℕ) (at : ℕ) (question 
           some = n.0;
           most = h.small;
           below = n.1;
-          found = rw t (unfold rowOfBitmaps in is ∙ answer-same question v.number k i view);
+          found = rw t (unfold row_of_bitmaps in is ∙ answer-same question v.number k i view);
           visited = rw (t, visits-leaf m v.number v.number) (sym (add-zero v.depth));
-          at_place = λ a lt. rw t (unfold rowOfBitmaps in sym (get_or-replicate k i v.number 0 lt));
-          at-codeword = λ n g. leaf-goes question h e x n g;
+          at_place = λ a lt. rw t (unfold row_of_bitmaps in sym (get_or-replicate k i v.number 0 lt));
+          at_codeword = λ n g. leaf-goes question h e x n g;
         },
   )
 
@@ -56,7 +56,7 @@ module _ (m N : ℕ) (v : Cursor) (k : ℕ) (s : List ℕ) (at : ℕ) (question 
   past : (r : Walked) → Ends m N v k s at r.end → 8 * length s < r.end → Finds m N v k s at question x i r
   past r e h = (e, λ (l : r.end ≤ 8 * length s) (f : ℕ) (q : List Bool) (g : CursorAt m N f q v). absurd (omega arith))
 
-  module _ (node-is : nodeTest m N v ≡ true) where
+  module _ (node-is : node_test m N v ≡ true) where
     -- those of a node do so with its own
     pub find-short : length s * 8 - at < k → (r : Walked) → r.end ≡ length s * 8 + 1 → Finds m N v k s at question x i r
     find-short h r e = past r (rw e (end_short m N v k s at here node-is h)) (omega arith)
@@ -85,7 +85,7 @@ module _ (m N : ℕ) (v : Cursor) (k : ℕ) (s : List ℕ) (at : ℕ) (question 
               → Finds m N (side_of m v a) n s (side a (at + k) mid) question x j found
               → Arrived m N (q ++ (a ∷ [])) (side a (prune m N branch.g (q ++ (false ∷ []))) (prune m N branch.g (q ++ (true ∷ []))))
               (drop (side a (at + k) mid) (unpack s)) n question x j (v.depth + 1) found
-          there f q branch l false n j r = r.1 l branch.g (q ++ (false ∷ [])) branch.zero-side
+          there f q branch l false n j r = r.1 l branch.g (q ++ (false ∷ [])) branch.zero_side
           there f q branch l true n j r = r.1 l branch.g (q ++ (true ∷ [])) branch.one_side
 
           arrived : end ≤ 8 * length s → (f : ℕ) (q : List Bool) (h : CursorAt m N f q v)
@@ -98,7 +98,7 @@ module _ (m N : ℕ) (v : Cursor) (k : ℕ) (s : List ℕ) (at : ℕ) (question 
               let u : Under m q (node q z o) = node-under h z o branch.tree_is in
               let d : need (node q z o) k (drop at b) ≤ length (drop at b) =
               node-need (node q z o) k b at end (all_end f q h ∙ ap (λ (t : Tree). ends t k b at) branch.tree_is) (omega (arith, unpack-length s)) in
-              let zs : mid ≡ ends z (k - e) b (at + k) = mids branch.g (q ++ (false ∷ [])) branch.zero-side in
+              let zs : mid ≡ ends z (k - e) b (at + k) = mids branch.g (q ++ (false ∷ [])) branch.zero_side in
               let row = row-side k b at e in-bits ones z o mid (mid-is q z o k b at e in-bits ones mid zs (omega (arith, unpack-length s))) a in
               let r = there f q branch (inside l) a _ _ below in
               let n = r.number in
@@ -119,7 +119,7 @@ module _ (m N : ℕ) (v : Cursor) (k : ℕ) (s : List ℕ) (at : ℕ) (question 
                     ap (λ (y : Question). onward y a (drop at b) i) p ∙ sym (before_side k b at e in-bits ones i le a) in
                     r.at_place p (omega (arith, more, ranks, count-side k b at e in-bits ones a)) ∙ ap₂ (λ (l : List ℕ) (j : ℕ). get_or l j 0) (sym row) ranks
                     ∙ sym (extract-side m q z o u k (drop at b) d a i lt bit);
-                at-codeword = λ n g. r.at-codeword n (goes-side question h (is-node m N v node-is).0 deep x n g s at i a way);
+                at_codeword = λ n g. r.at_codeword n (goes-side question h (is-node m N v node-is).0 deep x n g s at i a way);
               })
 
           find-side : Finds m N v k s at question x i (record { end = end; result = p; visits = found.visits })

@@ -11,15 +11,15 @@ use lib.Seq.{take-take}
 use denote.Enum.Declared.{tag_of}
 use Rattle.bits.specs.Bits.{bit_of, count}
 use Rattle.fibonacci.specs.Code.{codeword}
-use Rattle.wavelet.specs.Nodes.{isPrefix, Tree, node}
-use Rattle.wavelet.specs.Bitmaps.{need, rowOfBitmaps}
-use Rattle.wavelet.specs.Questions.{rankIn}
+use Rattle.wavelet.specs.Nodes.{is_prefix, Tree, node}
+use Rattle.wavelet.specs.Bitmaps.{need, row_of_bitmaps}
+use Rattle.wavelet.specs.Questions.{rank_in}
 use Rattle.wavelet.specs.Leaves.{CursorAt, side}
 use Rattle.wavelet.specs.declared.Cursor.{Cursor}
 use Rattle.wavelet.proofs.Merging.{rank_same, select-same, select-same-none}
-use Rattle.wavelet.proofs.Trees.{Under, zeroSide, oneSide}
+use Rattle.wavelet.proofs.Trees.{Under, zero_side_row, one_side_row}
 use Rattle.wavelet.proofs.Sides.{count-side, place-fits, rank-side, select-side, aligned-side}
-use Rattle.wavelet_walk.specs.Leaves.{answer_of, atLeaf, InView, turn, onward, back, Goes}
+use Rattle.wavelet_walk.specs.Leaves.{answer_of, at_leaf, InView, turn, onward, back, Goes}
 use Rattle.wavelet_walk.specs.declared.Question.{Question}
 use Rattle.wavelet_walk.specs.declared.Question.TheVariants.{Extract, Rank, Select}
 use Rattle.wavelet_walk.specs.contracts.Question.{the_type}
@@ -72,19 +72,19 @@ view-side Select k b at e fits ones i v a = tt
 -- ## What is answered
 
 -- of a row of one number
-pub answer-same : (question : Question) (n k i : ℕ) → InView question i k → atLeaf question n k i ≡ answer_of question n i (replicate k n)
+pub answer-same : (question : Question) (n k i : ℕ) → InView question i k → at_leaf question n k i ≡ answer_of question n i (replicate k n)
 answer-same Extract n k i v = refl
 answer-same Rank n k i v = sym (rank_same k n i v)
 answer-same Select n k i v = elim (dec_le k i) [ yes h ↦ omega (arith, select-same-none k n i h) | no h ↦ omega (arith, select-same k n i (omega arith)) ]
 
 -- of the row below a node, by the side of the number
 pub answer-side : (question : Question) (m : ℕ) (q : List Bool) (z o : Tree) → Under m q (node q z o) → (k : ℕ) (b : List Bool) → need (node q z o) k b ≤ length b
-    → (a : Bool) (n : ℕ) → isPrefix (q ++ (a ∷ [])) (codeword m n) ≡ true → (i : ℕ) → InView question i k
-    → answer_of question n i (rowOfBitmaps (node q z o) k b) ≡ back question a (take k b) (answer_of question n (onward question a b i) (side a (zeroSide z k b) (oneSide z o k b)))
+    → (a : Bool) (n : ℕ) → is_prefix (q ++ (a ∷ [])) (codeword m n) ≡ true → (i : ℕ) → InView question i k
+    → answer_of question n i (row_of_bitmaps (node q z o) k b) ≡ back question a (take k b) (answer_of question n (onward question a b i) (side a (zero_side_row z k b) (one_side_row z o k b)))
 answer-side Extract m q z o u k b d a n g i v = refl
 answer-side Rank m q z o u k b d a n g i v =
     rank-side m q z o u k b d a n g i v
-    ∙ ap (λ (l : List Bool). rankIn (side a (zeroSide z k b) (oneSide z o k b)) n (count a l)) (take-take i k b v)
+    ∙ ap (λ (l : List Bool). rank_in (side a (zero_side_row z k b) (one_side_row z o k b)) n (count a l)) (take-take i k b v)
 answer-side Select m q z o u k b d a n g i v = select-side m q z o u k b d a n g i
 
 -- the codeword goes on to the side taken

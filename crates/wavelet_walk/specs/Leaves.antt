@@ -1,13 +1,13 @@
 -- What the functions that walk an index promise.
 use Rattle.std.specs.Prelude.{◌≡◌, Bool, true, false, List, ℕ, ◌+◌, ◌-◌, ◌*◌, ◌≤◌, ◌<◌, min, length, get_or, take, drop}
-use Rattle.bits.specs.Bits.{bit_of, unpack, count, selectBit}
+use Rattle.bits.specs.Bits.{bit_of, unpack, count, select_bit}
 use Rattle.calls.specs.Calls.{Outcome, refused}
 use Rattle.calls.specs.Limits.{is_number}
 use Rattle.fibonacci.specs.Code.{codeword}
-use Rattle.wavelet.specs.Nodes.{isPrefix, Tree, prune, visits}
-use Rattle.wavelet.specs.Bitmaps.{rowOfBitmaps, rowOfIndex}
-use Rattle.wavelet.specs.Questions.{uses, rankIn, ask}
-use Rattle.wavelet.specs.Leaves.{CursorAt, Ends, visitsIn, Aligned}
+use Rattle.wavelet.specs.Nodes.{is_prefix, Tree, prune, visits}
+use Rattle.wavelet.specs.Bitmaps.{row_of_bitmaps, row_of_index}
+use Rattle.wavelet.specs.Questions.{uses, rank_in, ask}
+use Rattle.wavelet.specs.Leaves.{CursorAt, Ends, visits_in, Aligned}
 use Rattle.wavelet.specs.declared.Cursor.{Cursor}
 use Rattle.wavelet.specs.declared.QuestionAnswer.{QuestionAnswer}
 use Rattle.wavelet.specs.declared.QuestionAnswer.TheVariants.{Answered, Refused}
@@ -20,14 +20,14 @@ use Rattle.wavelet_walk.specs.declared.Walked.{Walked}
 -- Of a row, about the number n: n itself; how often it stands before place i; the place of its use that has i others before it
 abbrev pub answer_of : Question → ℕ → ℕ → List ℕ → ℕ
 answer_of Extract n i row = n
-answer_of Rank n i row = rankIn row n i
-answer_of Select n i row = selectBit true i (uses n row)
+answer_of Rank n i row = rank_in row n i
+answer_of Select n i row = select_bit true i (uses n row)
 
 -- .. where the row is k times n
-abbrev pub atLeaf : Question → ℕ → ℕ → ℕ → ℕ
-atLeaf Extract n k i = n
-atLeaf Rank n k i = i
-atLeaf Select n k i = min i k
+abbrev pub at_leaf : Question → ℕ → ℕ → ℕ → ℕ
+at_leaf Extract n k i = n
+at_leaf Rank n k i = i
+at_leaf Select n k i = min i k
 
 -- The number concerned: the one at place i, or n
 abbrev pub concerned : Question → ℕ → ℕ → List ℕ → ℕ
@@ -59,15 +59,15 @@ onward Select a b i = i
 abbrev pub back : Question → Bool → List Bool → ℕ → ℕ
 back Extract a b r = r
 back Rank a b r = r
-back Select a b r = selectBit a r b
+back Select a b r = select_bit a r b
 
 -- ## A walk
 
 -- Whether the walk goes by a codeword of the alphabet that begins with q, that of n
 abbrev pub Goes : Question → ℕ → ℕ → List Bool → ℕ → ℕ → Type 0
 Goes Extract m N q x n = ⊥
-Goes Rank m N q x n = Aligned m n x × (1 ≤ n) × (n ≤ N) × (isPrefix q (codeword m n) ≡ true)
-Goes Select m N q x n = Aligned m n x × (1 ≤ n) × (n ≤ N) × (isPrefix q (codeword m n) ≡ true)
+Goes Rank m N q x n = Aligned m n x × (1 ≤ n) × (n ≤ N) × (is_prefix q (codeword m n) ≡ true)
+Goes Select m N q x n = Aligned m n x × (1 ≤ n) × (n ≤ N) × (is_prefix q (codeword m n) ≡ true)
 
 -- What a walk below the string q finds in the tree t there, of the row of k numbers that the bits b hold
 pub record Arrived (m N : ℕ) (q : List Bool) (t : Tree) (b : List Bool) (k : ℕ) (question : Question) (x i depth : ℕ) (r : Walked) : Type 0 where
@@ -75,13 +75,13 @@ pub record Arrived (m N : ℕ) (q : List Bool) (t : Tree) (b : List Bool) (k : �
   pub number : ℕ
   pub some : 1 ≤ number
   pub most : number ≤ N
-  pub below : isPrefix q (codeword m number) ≡ true
+  pub below : is_prefix q (codeword m number) ≡ true
   -- and finds what is asked of it, and how many nodes begin its codeword, those above q among them
-  pub found : r.result ≡ answer_of question number i (rowOfBitmaps t k b)
-  pub visited : r.visits ≡ depth + visitsIn m t number
+  pub found : r.result ≡ answer_of question number i (row_of_bitmaps t k b)
+  pub visited : r.visits ≡ depth + visits_in m t number
   -- it is the number at place i, or that of the codeword
-  pub at_place : question ≡ Extract → i < k → number ≡ get_or (rowOfBitmaps t k b) i 0
-  pub at-codeword : (n : ℕ) → Goes question m N q x n → number ≡ n
+  pub at_place : question ≡ Extract → i < k → number ≡ get_or (row_of_bitmaps t k b) i 0
+  pub at_codeword : (n : ℕ) → Goes question m N q x n → number ≡ n
 
 -- So below a string of the tree, where the bitmaps do not run past the bytes
 abbrev pub Finds : ℕ → ℕ → Cursor → ℕ → List ℕ → ℕ → Question → ℕ → ℕ → Walked → Type 0
@@ -107,5 +107,5 @@ abbrev pub Walks : ℕ → ℕ → ℕ → List ℕ → Question → ℕ → ℕ
 Walks m N k s question n i (Refused r) = (next : Outcome (ℕ × ℕ)) → refused r ≡ ask m N k s next
 Walks m N k s question n i (Answered result seen) =
     ((next : Outcome (ℕ × ℕ)) → next ≡ ask m N k s next)
-    × (length (rowOfIndex m N k s) ≡ k)
-    × (Askable question N k n i → Tells m N (rowOfIndex m N k s) question n i result seen)
+    × (length (row_of_index m N k s) ≡ k)
+    × (Askable question N k n i → Tells m N (row_of_index m N k s) question n i result seen)

@@ -1,9 +1,9 @@
 // The walk of the three questions: down the tree the way of a number, and for select back. It goes over every bitmap once, which also shows whether the
 // bytes are an index.
 ghost use Rattle.std.specs.Prelude.{◌≡◌, ◌+◌, ◌-◌, ◌*◌, ◌≤◌, ◌<◌, length, take, drop};
-ghost use Rattle.bits.specs.Bits.{unpack, selectBit};
-ghost use Rattle.wavelet.specs.Leaves.{Ready, side, maxIndexBytes};
-ghost use Rattle.wavelet_walk.specs.Leaves.{InView, turn, atLeaf, onward, back, Finds, Walks};
+ghost use Rattle.bits.specs.Bits.{unpack, select_bit};
+ghost use Rattle.wavelet.specs.Leaves.{Ready, side, max_index_bytes};
+ghost use Rattle.wavelet_walk.specs.Leaves.{InView, turn, at_leaf, onward, back, Finds, Walks};
 
 use calls::{CountAnswer, Refusal};
 use wavelet::QuestionAnswer;
@@ -40,7 +40,7 @@ fn lost(end: usize) -> Walked
 
 // What is found where only the number n is left, k times.
 fn at_leaf(question: Question, n: usize, k: usize, i: usize) -> usize
-    ensures { result ≡ atLeaf question n k i }
+    ensures { result ≡ at_leaf question n k i }
 {
     match question {
         Question::Extract => n,
@@ -52,7 +52,7 @@ fn at_leaf(question: Question, n: usize, k: usize, i: usize) -> usize
 // Whether a walk goes on with a 1 from a node whose bitmap starts at bit `at`; x is the codeword that it goes by.
 // Requires: fewer than 32 bits before the node's next, the place in view in the bytes, and at most 8,192 of them, which `descend` shows.
 fn takes_one(question: Question, x: u32, b: &[u8], at: usize, i: usize, depth: usize) -> bool
-    requires { (depth < 32) × InView question (at + i) (8 * length b.now) × (length b.now ≤ maxIndexBytes) }
+    requires { (depth < 32) × InView question (at + i) (8 * length b.now) × (length b.now ≤ max_index_bytes) }
     ensures { result ≡ turn question x b.now at i depth }
 {
     match question {
@@ -73,7 +73,7 @@ fn count_on(one: bool, k: usize, ones: usize) -> usize
 // What is in view on a side of a node: a place becomes how many of the numbers before it are on that side, and a use stays the same one.
 // Requires: the place in view in the bytes, and at most 8,192 of them, which `descend` shows.
 fn onward(question: Question, b: &[u8], at: usize, i: usize, one: bool) -> usize
-    requires { InView question (at + i) (8 * length b.now) × (length b.now ≤ maxIndexBytes) }
+    requires { InView question (at + i) (8 * length b.now) × (length b.now ≤ max_index_bytes) }
     ensures { result ≡ onward question one (drop at (unpack b.now)) i }
 {
     match question {
@@ -85,8 +85,8 @@ fn onward(question: Question, b: &[u8], at: usize, i: usize, one: bool) -> usize
 // The place of the bit v that has j others of its kind before it in the bitmap of k bits that starts at bit `at`; k where there is none.
 // Requires: what `back` requires.
 fn select_in(b: &[u8], at: usize, k: usize, v: bool, j: usize) -> usize
-    requires { (at + k ≤ 8 * length b.now) × (length b.now ≤ maxIndexBytes) }
-    ensures { result ≡ selectBit v j (take k (drop at (unpack b.now))) }
+    requires { (at + k ≤ 8 * length b.now) × (length b.now ≤ max_index_bytes) }
+    ensures { result ≡ select_bit v j (take k (drop at (unpack b.now))) }
 {
     let from = at / 8;
     let to = (at + k + 7) / 8;
@@ -96,7 +96,7 @@ fn select_in(b: &[u8], at: usize, k: usize, v: bool, j: usize) -> usize
 // What was found on a side of a node, on the way back: a place there becomes the place here.
 // Requires: the node's bitmap in the bytes, and at most 8,192 of them, which `descend` shows.
 fn back(question: Question, b: &[u8], at: usize, k: usize, one: bool, res: usize) -> usize
-    requires { (at + k ≤ 8 * length b.now) × (length b.now ≤ maxIndexBytes) }
+    requires { (at + k ≤ 8 * length b.now) × (length b.now ≤ max_index_bytes) }
     ensures { result ≡ back question one (take k (drop at (unpack b.now))) res }
 {
     match question {

@@ -10,8 +10,8 @@ use lib.Seq.{slice, take-nil, drop-nil, take_all, take-append-le, drop-append-le
 use Rattle.lists.specs.Lists.{sum}
 use Rattle.lists.proofs.Each.{all_append}
 use Rattle.lists.proofs.Sums.{sum-append}
-use Rattle.fibonacci.specs.Encoding.{rowBits}
-use Rattle.calls.specs.Limits.{is_number, maxNumber, maxCount}
+use Rattle.fibonacci.specs.Encoding.{row_bits}
+use Rattle.calls.specs.Limits.{is_number, max_number, max_count}
 use Rattle.fibonacci.proofs.Sums.{slice-most}
 use Rattle.fibonacci.proofs.Rows.{bits-append}
 use Rattle.word_decoder.specs.declared.Segment.{Segment}
@@ -23,7 +23,7 @@ taken-append : (m limit : ℕ) (b : List Bool) (k e f : ℕ) (xs ys : List ℕ) 
 taken-append m limit b k e f xs ys x y =
     record {
       bits =
-          x.bits ∙ ap (λ (l : List Bool). rowBits m xs ++ l) y.bits ∙ sym (append_assoc (rowBits m xs) (rowBits m ys) (drop f b))
+          x.bits ∙ ap (λ (l : List Bool). row_bits m xs ++ l) y.bits ∙ sym (append_assoc (row_bits m xs) (row_bits m ys) (drop f b))
           ∙ ap (λ (l : List Bool). l ++ drop f b) (sym (bits-append m xs ys));
       legal = all_append (λ n. is_number limit n ≡ true) xs ys x.legal y.legal;
       within = y.within;
@@ -35,7 +35,7 @@ decoded-none m limit b = record { taken = taken_none m limit b 0 (omega arith); 
 
 module _ {m limit : ℕ} {b : List Bool} {bit count : ℕ} {row : List ℕ} (g : DecodedPrefix m limit b bit count row) where
   -- another part
-  pub decoded-more : (most : ℕ) (p : Segment) → count + most ≤ maxCount → (s : Summed m limit b bit most p)
+  pub decoded-more : (most : ℕ) (p : Segment) → count + most ≤ max_count → (s : Summed m limit b bit most p)
       → DecodedPrefix m limit b p.bit (count + p.taken) (row ++ s.row)
   decoded-more most p h s =
       record {
@@ -45,8 +45,8 @@ module _ {m limit : ℕ} {b : List Bool} {bit count : ℕ} {row : List ℕ} (g :
       }
 
   -- the bits of the numbers taken end where they were taken to
-  pub decoded-end : bit ≡ length (rowBits m row)
-  decoded-end = omega (arith, ap length g.taken.bits, length-append (rowBits m row) (drop bit b), length-drop bit b, g.taken.within)
+  pub decoded-end : bit ≡ length (row_bits m row)
+  decoded-end = omega (arith, ap length g.taken.bits, length-append (row_bits m row) (drop bit b), length-drop bit b, g.taken.within)
 
 -- ## Sums
 
@@ -80,18 +80,18 @@ module _ (from to until add : ℕ) (xs ys : List ℕ) (i : ℕ) (l : length xs �
 
 -- where a place begins: more numbers were taken, and none past the place with some before it
 start-more : (m from until : ℕ) (xs ys : List ℕ) (old new bit i count : ℕ) → length xs ≡ i → length (xs ++ ys) ≡ count → count ≤ until
-    → (i < from → until ≤ from) → old ≡ length (rowBits m (take from xs)) → bit ≡ length (rowBits m (xs ++ ys))
-    → (count ≤ from → new ≡ bit) × (from < count → new ≡ old) → new ≡ length (rowBits m (take from (xs ++ ys)))
+    → (i < from → until ≤ from) → old ≡ length (row_bits m (take from xs)) → bit ≡ length (row_bits m (xs ++ ys))
+    → (count ≤ from → new ≡ bit) × (from < count → new ≡ old) → new ≡ length (row_bits m (take from (xs ++ ys)))
 start-more m from until xs ys old new bit i count l k few u is end e =
     elim (dec_le count from) [
-      | yes h ↦ e.0 h ∙ end ∙ ap (λ (r : List ℕ). length (rowBits m r)) (sym (take_all from (xs ++ ys) (omega arith)))
+      | yes h ↦ e.0 h ∙ end ∙ ap (λ (r : List ℕ). length (row_bits m r)) (sym (take_all from (xs ++ ys) (omega arith)))
       | no h ↦
           let in-xs : from ≤ length xs =
           elim (dec_le from i) [
             | yes f ↦ omega arith
             | no f ↦ absurd (omega (arith, u (omega arith)))
           ] in
-          e.1 (omega arith) ∙ is ∙ ap (λ (r : List ℕ). length (rowBits m r)) (sym (take-append-le from xs ys in-xs))
+          e.1 (omega arith) ∙ is ∙ ap (λ (r : List ℕ). length (row_bits m r)) (sym (take-append-le from xs ys in-xs))
     ]
 
 -- ## What is known of a span
@@ -103,13 +103,13 @@ spanned-none m limit from to b =
       decoded = decoded-none m limit b;
       total = sym (ap sum (ap (drop from) (take-nil to) ∙ drop-nil from));
       everything = refl;
-      starts = unfold rowBits flatten in rw (take-nil from) refl;
+      starts = unfold row_bits flatten in rw (take-nil from) refl;
     }
 
 module _ {m limit from to : ℕ} {b : List Bool} {f : SpanProgress} (g : Spanned m limit from to b f) where
   -- no sum is larger than 4,096 times the largest number
-  module _ (top : limit ≤ maxNumber) (bit count : ℕ) (ys : List ℕ) (more : DecodedPrefix m limit b bit count (g.row ++ ys)) where
-    pub spanned-most : (f.sum ≤ maxNumber * maxCount) × (f.all + sum ys ≤ maxNumber * maxCount)
+  module _ (top : limit ≤ max_number) (bit count : ℕ) (ys : List ℕ) (more : DecodedPrefix m limit b bit count (g.row ++ ys)) where
+    pub spanned-most : (f.sum ≤ max_number * max_count) × (f.all + sum ys ≤ max_number * max_count)
     spanned-most =
         let row : List ℕ = g.row ++ ys in
         let every : sum (slice 0 (length row) row) ≡ sum row = ap sum (take_all (length row) row (omega arith)) in (

@@ -1,7 +1,7 @@
 // Codewords of order 2 to 6 taken out of an encoding by words of 64 bits.
 ghost use Rattle.std.specs.Prelude.{◌≡◌, ◌≤◌, ◌<◌, length};
 ghost use Rattle.bits.specs.Bits.{unpack};
-ghost use Rattle.calls.specs.Limits.{maxNumber, maxBytes};
+ghost use Rattle.calls.specs.Limits.{max_number, max_bytes};
 ghost use Rattle.fibonacci.specs.Leaves.{Firsts};
 ghost use Rattle.word_decoder.specs.Leaves.{SegmentInput, Summed, EndsSegment, CountsInSpan, SpanTaken, RowTaken};
 
@@ -121,7 +121,7 @@ pub fn take_span(
     from: usize,
     to: usize,
 ) -> SpanProgress
-    requires { Firsts order firsts.now × (length s.now ≤ maxBytes) × (limit ≤ maxNumber) }
+    requires { Firsts order firsts.now × (length s.now ≤ max_bytes) × (limit ≤ max_number) }
     ensures { SpanTaken order limit from to (unpack s.now) result }
 {
     let mut values: [u32; 1536] = [0; 1536];
@@ -156,7 +156,7 @@ pub fn take_span(
 // Takes codewords from the start of an encoding on, as far as words can, and stores their numbers, as far as the list has room. Requires: the first numbers
 // of an order in use, an encoding that is not too long, and a limit of at most 4,294,967,295, which the decoder checks or shows.
 pub fn take_row(firsts: &[u32; 47], order: usize, s: &[u8], limit: u64, row: &mut [u32]) -> Progress
-    requires { Firsts order firsts.now × (length s.now ≤ maxBytes) × (limit ≤ maxNumber) }
+    requires { Firsts order firsts.now × (length s.now ≤ max_bytes) × (limit ≤ max_number) }
     ensures { RowTaken order limit (unpack s.now) row.old row.new result }
 {
     let mut values: [u32; 1536] = [0; 1536];

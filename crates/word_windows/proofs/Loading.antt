@@ -7,7 +7,7 @@ use native.Mathlib.Omega.{arith}
 use lib.ListN.{length, take, drop, replicate}
 use lib.Seq.{drop-drop}
 use Rattle.lists.proofs.Lists.{drop-take}
-use Rattle.bits.specs.Bits.{wordBits, unpack}
+use Rattle.bits.specs.Bits.{word_bits, unpack}
 use Rattle.bits.proofs.Bytes.{unpack-take, unpack-drop, unpack-length}
 use Rattle.bits.proofs.Words.{words-zero}
 use Rattle.word_windows.specs.Leaves.{WindowAt}
@@ -20,7 +20,7 @@ pub window-none : (b : List Bool) (k : ℕ) → k ≤ length b → WindowAt b k 
 window-none b k h = record { some = 0; others = 64; all = refl; within = omega arith; bits = words-zero 64 }
 
 -- eight bytes from the one with bit k, moved up by o so that bit k is on top
-pub window-load : (s : List ℕ) (k o w : ℕ) → o ≡ k % 8 → k / 8 + 8 ≤ length s → wordBits 64 w ≡ unpack (take 8 (drop (k / 8) s))
+pub window-load : (s : List ℕ) (k o w : ℕ) → o ≡ k % 8 → k / 8 + 8 ≤ length s → word_bits 64 w ≡ unpack (take 8 (drop (k / 8) s))
     → (a : WindowAt (unpack s) k (w * 2 ^ o % 2 ^ 64)) × (a.some ≡ 64 - k % 8)
 window-load s k o w is h e =
     let at : 8 * (k / 8) + o ≡ k = omega arith in (

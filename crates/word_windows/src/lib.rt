@@ -1,11 +1,11 @@
 // Words of 64 bits of an encoding of order 2 to 6: where codewords end in them, and their numbers.
 ghost use Rattle.std.specs.Prelude.{◌≡◌, ◌*◌, ◌≤◌, length};
 ghost use Rattle.bits.specs.Bits.{unpack};
-ghost use Rattle.calls.specs.Limits.{Order, maxNumber};
+ghost use Rattle.calls.specs.Limits.{Order, max_number};
 ghost use Rattle.fibonacci.specs.Leaves.{Firsts};
-ghost use Rattle.digit_tables.specs.Leaves.{byteValues};
+ghost use Rattle.digit_tables.specs.Leaves.{byte_values};
 ghost use Rattle.digit_values.specs.Leaves.{IsBody};
-ghost use Rattle.word_windows.specs.Leaves.{bodyNumber, ExactIfLegal, RunStarts, LoadedWindow};
+ghost use Rattle.word_windows.specs.Leaves.{body_number, ExactIfLegal, RunStarts, LoadedWindow};
 
 // The next bits of an encoding, the first on top, and where in them as many ones as the order begin.
 #[derive(Drop)]
@@ -51,8 +51,8 @@ pub fn window_at(s: &[u8], order: usize, bit: usize) -> Window
 // The number of the codeword whose bits before its last ones are the first `len` of a word. Where it is above 4,294,967,295, what is returned is so too, or 0.
 // Requires: the tables of `fibonacci` and `digit_tables` for an order in use, and such bits, which the word decoder takes and shows.
 pub fn number(values: &[u32; 1536], firsts: &[u32; 47], order: usize, w: u64, len: usize) -> u64
-    requires { Firsts order firsts.now × (values.now ≡ byteValues order) × IsBody w len }
-    ensures { ExactIfLegal (bodyNumber order w len) result × (result ≤ 7 * maxNumber) }
+    requires { Firsts order firsts.now × (values.now ≡ byte_values order) × IsBody w len }
+    ensures { ExactIfLegal (body_number order w len) result × (result ≤ 7 * max_number) }
 {
     if len <= 9 {
         return fibonacci::first_number(firsts, order, len)

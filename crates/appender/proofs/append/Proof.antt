@@ -3,10 +3,10 @@ use Prim.Native.Nat.{ℕ, ◌+◌, ◌*◌, ◌≤◌}
 use native.Mathlib.Omega.{arith}
 use lib.ListN.{length}
 use borrow.Author.Rules.{rules}
-use Rattle.bits.specs.Bits.{wordBits}
+use Rattle.bits.specs.Bits.{word_bits}
 use Rattle.bits.proofs.Put.{put-part}
 use Rattle.headers.specs.declared.Header.{Header}
-use Rattle.headers.specs.Headers.{maxBits}
+use Rattle.headers.specs.Headers.{max_bits}
 use Rattle.headers.proofs.Headers.{capacity-most}
 use Rattle.appender.specs.Leaves.{Plans}
 use Rattle.appender.specs.declared.Planned.{Planned}
@@ -47,7 +47,7 @@ module _ (c : tie.After-planned2) where
   -- there is room for it
   room : let a = start.args in
       let x = c.planned2.given.0.0 in
-      (a.header.bits + x.word.len ≤ 8 * length a.buf.now) × (x.header.bits ≤ maxBits)
+      (a.header.bits + x.word.len ≤ 8 * length a.buf.now) × (x.header.bits ≤ max_bits)
   room =
       let a = start.args in
       let x = append-is a.order (length a.buf.now) a.header a.n _ planned.0 in
@@ -92,7 +92,7 @@ returns-2 c =
     let w = c.before.before.before.before.put_word in (
       sym p.0,
       append-put a.order a.buf.now a.header a.n _ p.0 _ (λ i. (known.slice-known.given i).fits) (λ i. (c.before.before.slice-known2.given i).fits)
-          (rw (← p.1.0) (put-part a.buf.now w.new.0 a.header.bits (wordBits x.word.len x.word.bits) (omega (arith, room m)) w.ensures)),
+          (rw (← p.1.0) (put-part a.buf.now w.new.0 a.header.bits (word_bits x.word.len x.word.bits) (omega (arith, room m)) w.ensures)),
     )
 
 pub append-spec : {M : Type 1} → statement M

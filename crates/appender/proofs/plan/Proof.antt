@@ -3,14 +3,14 @@ use mathlib.Core.Bool.{true, false}
 use Prim.Native.Nat.{ℕ, ◌+◌}
 use native.Mathlib.Omega.{arith}
 use borrow.Author.Rules.{rules}
-use borrow.Author.Tests.{not-true, not-false}
+use borrow.Author.Tests.{not_true, not-false}
 use Rattle.bits.specs.Bits.{byte_count}
 use lib.ListN.{length}
 use Rattle.fibonacci.specs.Code.{codeword}
 use Rattle.calls.specs.Calls.{accepted}
-use Rattle.calls.specs.Limits.{is_order, is_number, maxNumber}
+use Rattle.calls.specs.Limits.{is_order, is_number, max_number}
 use Rattle.calls.proofs.Checks.{order_is, number_is}
-use Rattle.headers.specs.Headers.{header, isBadHeader}
+use Rattle.headers.specs.Headers.{header, is_bad_header}
 use Rattle.headers.proofs.Headers.{capacity-most, Good, good-is}
 use Rattle.appender.proofs.Appending.{Appendable, append-accepts, append-order, append-header, append-number, append-full, append-room}
 use Rattle.appender.proofs.plan.Statement.{statement}
@@ -20,17 +20,17 @@ is-order-requires : tie.Need-is-order-requires
 is-order-requires c κs = search rules
 
 returns : tie.Need-returns
-returns c = append-order _ _ _ _ (sym c.before.is-order.ensures ∙ not-true _ c.if1.true)
+returns c = append-order _ _ _ _ (sym c.before.is-order.ensures ∙ not_true _ c.if1.true)
 
 -- ## What has passed
 
 ordered : (c : tie.Else1) → is_order c.before.before.args.order ≡ true
 ordered c = sym c.before.is-order.ensures ∙ not-false _ c.if1.false
 
-headed : (c : tie.Else2) → let a = c.before.before.before.before.args in isBadHeader a.room a.header ≡ false
+headed : (c : tie.Else2) → let a = c.before.before.before.before.args in is_bad_header a.room a.header ≡ false
 headed c = sym c.before.is-bad.ensures ∙ c.if2.false
 
-legal : (c : tie.Else3) → is_number maxNumber c.before.before.before.before.before.before.args.n ≡ true
+legal : (c : tie.Else3) → is_number max_number c.before.before.before.before.before.before.args.n ≡ true
 legal c = sym c.before.is-number.ensures ∙ not-false _ c.if3.false
 
 good : (c : tie.Else2) → let a = c.before.before.before.before.args in Good a.room a.header
@@ -48,7 +48,7 @@ is-number-requires c κs = search rules
 returns-3 : tie.Need-returns-3
 returns-3 c =
     let g = c.before.before in
-    append-number _ _ _ _ (ordered g.before.before) (headed g) (sym c.before.is-number.ensures ∙ not-true _ c.if3.true)
+    append-number _ _ _ _ (ordered g.before.before) (headed g) (sym c.before.is-number.ensures ∙ not_true _ c.if3.true)
 
 returns-4 : tie.Need-returns-4
 returns-4 c =
@@ -59,7 +59,7 @@ returns-4 c =
 codeword-requires : tie.Need-codeword-requires
 codeword-requires c κs =
     let l = c.before.before in
-    let n = number_is maxNumber _ (legal l) in
+    let n = number_is max_number _ (legal l) in
     (order_is _ (ordered l.before.before.before.before), n.0, n.1)
 
 add-bits : tie.Need-overflow-add-bits
@@ -110,7 +110,7 @@ add-t15 c = search rules
 add-t17 : tie.Need-overflow-add-t17
 add-t17 c =
     let x = accepts c.before.before in
-    omega (arith, x.good.total, number_is maxNumber _ x.legal)
+    omega (arith, x.good.total, number_is max_number _ x.legal)
 
 returns-6 : tie.Need-returns-6
 returns-6 c =

@@ -4,7 +4,7 @@ use native.Mathlib.Omega.{arith}
 use native.Mathlib.Numerals.{add-one}
 use borrow.Author.Rules.{rules}
 use Rattle.fibonacci.specs.Code.{ones, value, first}
-use Rattle.calls.specs.Limits.{maxNumber}
+use Rattle.calls.specs.Limits.{max_number}
 use Rattle.fibonacci.proofs.Numbers.{first_pos, first-rises, value-ones}
 use Rattle.fibonacci.proofs.Lookup.{number-kept, number-none, number-some}
 use Rattle.bit_decoder.proofs.ones_value.Statement.{statement}
@@ -42,11 +42,11 @@ first-number-requires-2 c κs = search rules
 differ : (c : tie.After-first-number2)
     → let a = c.before.before.before.before.args in
     (c.first-number2.result + value a.order (a.len + 1) (ones a.run) ≡ c.before.before.first-number.result)
-    × (c.before.before.first-number.result ≤ maxNumber)
+    × (c.before.before.first-number.result ≤ max_number)
 differ c =
     let a = c.before.before.before.before.args in
     let far = number-some (first a.order (a.len + a.run + 1)) (λ e. omega arith) in
-    let near : first a.order (a.len + 1) ≤ maxNumber = omega (arith, far, first-rises a.order {j = a.len + 1} {k = a.len + a.run + 1} (omega arith)) in
+    let near : first a.order (a.len + 1) ≤ max_number = omega (arith, far, first-rises a.order {j = a.len + 1} {k = a.len + a.run + 1} (omega arith)) in
     let sum = rw (← add-one a.len, ← add-one (a.len + a.run)) at (value-ones a.order a.len a.run) in
     (omega (arith, number-kept _ far, number-kept _ near, sum), omega (arith, number-kept _ far, far))
 

@@ -1,6 +1,6 @@
 use mathlib.Core.Path.{ap, ◌∙◌}
 use native.Mathlib.Omega.{arith}
-use Rattle.bits.specs.Bits.{wordBits}
+use Rattle.bits.specs.Bits.{word_bits}
 use Rattle.bit_moves.proofs.Words.{byte-read, byte-none}
 use borrow.Author.Rules.{rules}
 use Rattle.bit_moves.proofs.byte_or_zero.Statement.{statement}
@@ -15,7 +15,7 @@ wide-requires c κs = search rules
 returns : tie.Need-returns
 returns c =
     let a = c.before.before.before.before.args in
-    (c.wide.ensures.1, ap (wordBits 8) c.wide.ensures.0 ∙ byte-read a.s.now a.j (omega arith))
+    (c.wide.ensures.1, ap (word_bits 8) c.wide.ensures.0 ∙ byte-read a.s.now a.j (omega arith))
 
 returns-2 : tie.Need-returns-2
 returns-2 c =

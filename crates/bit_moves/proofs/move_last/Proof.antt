@@ -3,7 +3,7 @@ use Prim.Native.Nat.{ℕ, ◌+◌, ◌-◌, ◌*◌, ◌≤◌}
 use native.Mathlib.Omega.{arith}
 use native.Mathlib.Nat.{sub-zero}
 use lib.ListN.{length, take, drop}
-use Rattle.bits.specs.Bits.{wordBits, unpack}
+use Rattle.bits.specs.Bits.{word_bits, unpack}
 use Rattle.bits.specs.Leaves.{fit}
 use Rattle.bit_moves.specs.Leaves.{stream}
 use Rattle.bit_moves.proofs.Moves.{moved-end, moved-rest}
@@ -22,7 +22,7 @@ decreases-loop s₀ used end gap c next₀ word₀ s next word = end - next
 read : (c : tie.After-word-or-zeros invariant-loop decreases-loop)
     → let a = c.before.before.before.before.before.before.args in
     let l = c.before.before.before.before.loop in
-    wordBits 64 c.word-or-zeros.result ≡ fit 64 (unpack (drop (l.next + a.gap) (take a.used l.s)))
+    word_bits 64 c.word-or-zeros.result ≡ fit 64 (unpack (drop (l.next + a.gap) (take a.used l.s)))
 read c =
     let a = c.before.before.before.before.before.before.args in
     let l = c.before.before.before.before.loop in

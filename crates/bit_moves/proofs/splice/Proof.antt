@@ -2,7 +2,7 @@ use Prim.Native.Nat.{◌+◌, ◌-◌, ◌*◌, ◌/◌, ◌%◌}
 use native.Mathlib.Omega.{arith}
 use native.Mathlib.Nat.{mod-lt}
 use lib.Pow.{pow_pos}
-use Rattle.bits.specs.Bits.{wordBits}
+use Rattle.bits.specs.Bits.{word_bits}
 use Rattle.bits.proofs.Bytes.{high-below}
 use Rattle.bit_moves.proofs.Splices.{spliced}
 use borrow.Author.Rules.{rules}
@@ -84,7 +84,7 @@ returns c =
     let a = start.args in
     let p = start.requires in
     let bits = rw three.before.low.ensures at three.three.ensures in
-    spliced a.s.now a.used a.at a.old (wordBits a.len a.word) (omega (arith, p.0, p.1)) p.3 p.4 _ _ a.end words.move-words.result.next words.move-words.result.word three.three.result _ w.wide.result w2.wide2.result p.0 words.move-words.ensures.1 words.move-words.ensures.0 w.wide.ensures.0 w2.wide2.ensures.0 bits last.move-last.ensures
+    spliced a.s.now a.used a.at a.old (word_bits a.len a.word) (omega (arith, p.0, p.1)) p.3 p.4 _ _ a.end words.move-words.result.next words.move-words.result.word three.three.result _ w.wide.result w2.wide2.result p.0 words.move-words.ensures.1 words.move-words.ensures.0 w.wide.ensures.0 w2.wide2.ensures.0 bits last.move-last.ensures
 
 pub splice-spec : {M : Type 1} → statement M
 splice-spec =

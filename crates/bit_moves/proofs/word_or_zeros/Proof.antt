@@ -3,20 +3,20 @@ use Prim.Native.Nat.{◌≤◌, ◌<◌, ◌-◌, ◌*◌, ◌^◌}
 use native.Mathlib.Omega.{arith}
 use lib.ListN.{drop}
 use borrow.Author.Rules.{rules}
-use Rattle.bits.specs.Bits.{wordBits, unpack}
+use Rattle.bits.specs.Bits.{word_bits, unpack}
 use Rattle.bits.specs.Leaves.{fit}
 use Rattle.bit_moves.proofs.Words.{word_more}
 use Rattle.bit_moves.proofs.word_or_zeros.Statement.{statement}
 use Rattle.bit_moves.proofs.word_or_zeros.Tie as tie
 
 abbrev invariant-loop : tie.invariant-loop
-invariant-loop s j w₀ k₀ w k = (k ≤ 8) × (w < 2 ^ (8 * k)) × (wordBits (8 * k) w ≡ fit (8 * k) (unpack (drop j s)))
+invariant-loop s j w₀ k₀ w k = (k ≤ 8) × (w < 2 ^ (8 * k)) × (word_bits (8 * k) w ≡ fit (8 * k) (unpack (drop j s)))
 
 abbrev decreases-loop : tie.decreases-loop
 decreases-loop s j w₀ k₀ w k = 8 - k
 
 loop-holds : tie.Need-loop-init invariant-loop decreases-loop
-unfolding wordBits fit
+unfolding word_bits fit
 loop-holds c = (omega arith, omega arith, refl)
 
 add-byte-or-zero : tie.Need-overflow-add-byte-or-zero invariant-loop decreases-loop

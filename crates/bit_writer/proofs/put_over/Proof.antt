@@ -1,5 +1,5 @@
 use borrow.Author.Rules.{rules}
-use Rattle.bits.specs.Bits.{wordBits}
+use Rattle.bits.specs.Bits.{word_bits}
 use Rattle.bits.proofs.Put.{put-stored}
 use Rattle.bit_writer.proofs.put_over.Statement.{statement}
 use Rattle.bit_writer.proofs.put_over.Tie as tie
@@ -20,7 +20,7 @@ returns : tie.Need-returns
 returns c =
     let a = c.before.before.before.before.before.before.before.args in
     let joined = c.before.before.before.before.joined in
-    put-stored a.s.now _ a.o 8 joined.result (wordBits a.len a.word) (search rules) (search rules) (search rules) joined.ensures
+    put-stored a.s.now _ a.o 8 joined.result (word_bits a.len a.word) (search rules) (search rules) (search rules) joined.ensures
     c.before.before.Store-word.ensures
 
 pub put-over-spec : {M : Type 1} → statement M

@@ -1,5 +1,5 @@
 use borrow.Author.Rules.{rules}
-use Rattle.bits.specs.Bits.{wordBits}
+use Rattle.bits.specs.Bits.{word_bits}
 use Rattle.bits.specs.Leaves.{put_at}
 use Rattle.bits.proofs.Words.{words-length}
 use Rattle.bits.proofs.Put.{put-stored}
@@ -33,7 +33,7 @@ returns c =
     let a = c.before.before.before.before.before.before.before.args in
     let joined = c.before.before.before.before.joined in
     rw (words-length a.len a.word)
-    (put-stored a.s.now _ a.o _ joined.result (wordBits a.len a.word) (search rules) (search rules) (search rules) joined.ensures
+    (put-stored a.s.now _ a.o _ joined.result (word_bits a.len a.word) (search rules) (search rules) (search rules) joined.ensures
     c.before.before.store.ensures)
 
 pub put-word-spec : {M : Type 1} → statement M

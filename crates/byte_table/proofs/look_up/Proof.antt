@@ -59,9 +59,9 @@ returns c =
         coef2 = omega arith;
         second = omega arith;
         third = omega arith;
-        rest-len = omega arith;
-        rest-value = omega arith;
-        rest-ones = omega arith;
+        rest_len = omega arith;
+        rest_value = omega arith;
+        rest_ones = omega arith;
       },
     )
 

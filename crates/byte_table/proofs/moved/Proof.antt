@@ -6,7 +6,7 @@ use native.Mathlib.Omega.{arith}
 use lib.ListN.{get_or}
 use borrow.Author.Rules.{rules}
 use Rattle.fibonacci.specs.Code.{F}
-use Rattle.byte_table.specs.Leaves.{twoBack, moved}
+use Rattle.byte_table.specs.Leaves.{two_back, moved}
 use Rattle.byte_table.proofs.Moving.{position_at}
 use Rattle.byte_table.proofs.moved.Statement.{statement}
 use Rattle.byte_table.proofs.moved.Tie as tie
@@ -51,19 +51,19 @@ add-result-2 : tie.Need-overflow-add-result-2
 add-result-2 c = search rules
 
 returns : tie.Need-returns
-unfolding moved twoBack
+unfolding moved two_back
 returns c =
     let t1 = c.before.before.before.before.times in
     let t2 = c.before.before.times2 in
     let t3 = c.times3 in
     let z = c.before.before.before.before.before.before in
     let l : ℕ = z.args.len in
-    let at : (i : ℕ) → i < 40 → get_or z.args.positions.now i 0 ≡ twoBack i = λ i h. ap (λ (p : List ℕ). get_or p i 0) z.requires.0 ∙ position_at i h in
+    let at : (i : ℕ) → i < 40 → get_or z.args.positions.now i 0 ≡ two_back i = λ i h. ap (λ (p : List ℕ). get_or p i 0) z.requires.0 ∙ position_at i h in
     let e1 : t1.result ≡ F 3 l * z.args.coef0 =
-    t1.ensures.0 ∙ ap (λ (f : ℕ). f * z.args.coef0) (at (l + 2) (omega (arith, z.requires.1)) ∙ ap twoBack (add-two l)) in
-    let e2 : t2.result ≡ twoBack (suc l) * z.args.coef1 =
-    t2.ensures.0 ∙ ap (λ (f : ℕ). f * z.args.coef1) (at (l + 1) (omega (arith, z.requires.1)) ∙ ap twoBack (add-one l)) in
-    let e3 : t3.result ≡ twoBack l * z.args.coef2 = t3.ensures.0 ∙ ap (λ (f : ℕ). f * z.args.coef2) (at l (omega (arith, z.requires.1))) in
+    t1.ensures.0 ∙ ap (λ (f : ℕ). f * z.args.coef0) (at (l + 2) (omega (arith, z.requires.1)) ∙ ap two_back (add-two l)) in
+    let e2 : t2.result ≡ two_back (suc l) * z.args.coef1 =
+    t2.ensures.0 ∙ ap (λ (f : ℕ). f * z.args.coef1) (at (l + 1) (omega (arith, z.requires.1)) ∙ ap two_back (add-one l)) in
+    let e3 : t3.result ≡ two_back l * z.args.coef2 = t3.ensures.0 ∙ ap (λ (f : ℕ). f * z.args.coef2) (at l (omega (arith, z.requires.1))) in
     (omega (arith, e1, e2, e3), omega (arith, t1.ensures.1, t2.ensures.1, t3.ensures.1))
 
 pub moved-spec : {M : Type 1} → statement M

@@ -5,12 +5,12 @@ use Prim.Native.Nat.{ℕ, ◌+◌, ◌-◌, ◌*◌, ◌≤◌}
 use native.Mathlib.Omega.{arith}
 use lib.ListN.{length}
 use borrow.Author.Rules.{rules}
-use Rattle.bits.specs.Bits.{wordBits, unpack, byte_count}
-use Rattle.bits.specs.Leaves.{putTo, put_at}
+use Rattle.bits.specs.Bits.{word_bits, unpack, byte_count}
+use Rattle.bits.specs.Leaves.{put_to, put_at}
 use Rattle.bits.proofs.Words.{words-length}
 use Rattle.bits.proofs.Put.{put-within, put-part}
 use Rattle.calls.proofs.Checks.{number_is, legal-at}
-use Rattle.calls.specs.Limits.{maxNumber, maxCount}
+use Rattle.calls.specs.Limits.{max_number, max_count}
 use Rattle.fibonacci.proofs.Rows.{bits-few}
 use Rattle.codeword_writer.proofs.Rows.{Put, put-none, put-room, put_next, put-end}
 use Rattle.codeword_writer.proofs.put_row.Statement.{statement}
@@ -27,14 +27,14 @@ decreases-loop out₀ bytes positions firsts low order row at₀ i₀ i-end out 
 module _ (c : tie.After-coded invariant-loop decreases-loop) where
   -- it stays within the encoding
   room : let bytes = c.before.before.before.before.before.before.before.args.bytes in
-      (c.before.before.before.before.loop.at + c.coded.result.len ≤ 8 * bytes) × (8 * bytes ≤ 47 * maxCount)
+      (c.before.before.before.before.loop.at + c.coded.result.len ≤ 8 * bytes) × (8 * bytes ≤ 47 * max_count)
   room =
       let a = c.before.before.before.before.before.before.before.args in
       let p = c.before.before.before.before.before.before.before.requires in
       let l = c.before.before.before.before.loop in
       let n = c.before.wide in (
-        omega (arith, p.1.bytes-are, c.coded.ensures.2, put-room a.order a.row.now a.bytes l.i l.at _ _ l.invariant.3 n.result (omega arith) n.ensures),
-        omega (arith, p.1.bytes-are, p.1.count, bits-few a.order a.row.now p.0.0.0 p.1.legal),
+        omega (arith, p.1.bytes_are, c.coded.ensures.2, put-room a.order a.row.now a.bytes l.i l.at _ _ l.invariant.3 n.result (omega arith) n.ensures),
+        omega (arith, p.1.bytes_are, p.1.count, bits-few a.order a.row.now p.0.0.0 p.1.legal),
       )
 
   -- it stands in the buffer, with zeros up to bit d
@@ -42,7 +42,7 @@ module _ (c : tie.After-coded invariant-loop decreases-loop) where
       → let l = c.before.before.before.before.loop in
       let a = c.before.before.before.before.before.before.before.args in
       let w = c.coded.result in
-      8 * byte_count (l.at + w.len) ≤ d → d ≤ 8 * a.bytes → unpack out ≡ putTo l.at (wordBits w.len w.bits) d (unpack l.out)
+      8 * byte_count (l.at + w.len) ≤ d → d ≤ 8 * a.bytes → unpack out ≡ put_to l.at (word_bits w.len w.bits) d (unpack l.out)
       → Put a.order a.row.now a.bytes (l.i + 1) (l.at + w.len) (unpack out) (unpack a.out.now)
   next d out g h e =
       let a = c.before.before.before.before.before.before.before.args in
@@ -72,7 +72,7 @@ coded-requires c κs =
     let a = c.before.before.before.before.before.before.args in
     let p = c.before.before.before.before.before.before.requires in
     let n = c.wide in
-    let legal = number_is maxNumber n.result (rw n.ensures (legal-at maxNumber a.row.now c.before.before.before.loop.i p.1.legal (omega arith))) in
+    let legal = number_is max_number n.result (rw n.ensures (legal-at max_number a.row.now c.before.before.before.loop.i p.1.legal (omega arith))) in
     (p.0, legal.0, legal.1)
 
 add-if1 : tie.Need-overflow-add-if1 invariant-loop decreases-loop
@@ -141,7 +141,7 @@ returns : tie.Need-returns invariant-loop decreases-loop
 returns c =
     let a = c.before.before.before.before.args in
     let l = c.before.loop in
-    put-end a.order a.row.now a.bytes l.i l.at (unpack l.out) (unpack a.out.now) l.invariant.3 (omega arith) c.before.before.before.before.requires.1.bytes-are
+    put-end a.order a.row.now a.bytes l.i l.at (unpack l.out) (unpack a.out.now) l.invariant.3 (omega arith) c.before.before.before.before.requires.1.bytes_are
 
 pub put-row-spec : {M : Type 1} → statement M
 put-row-spec =

@@ -2,7 +2,7 @@
 use borrow.Author.Rules.{rules}
 use Rattle.bits.specs.Bits.{word_of}
 use Rattle.fibonacci.specs.Code.{past, F, digits}
-use Rattle.codewords.specs.Leaves.{lowCount, low_word, lowDigits}
+use Rattle.codewords.specs.Leaves.{low_count, low_word, low_digits}
 use Rattle.codewords.proofs.Codewords.{low-row}
 use Rattle.codewords.proofs.low_digits.Statement.{statement}
 use Rattle.codewords.proofs.low_digits.Tie as tie
@@ -17,7 +17,7 @@ array-copy-out-result : tie.Need-array-copy-out-result
 array-copy-out-result c = search rules
 
 returns : tie.Need-returns
-unfolding lowDigits low_word lowCount word_of digits F past
+unfolding low_digits low_word low_count word_of digits F past
 returns c = low-row c.before.args.order _ c.before.requires
 
 pub low-digits-spec : {M : Type 1} → statement M

@@ -7,7 +7,7 @@ use lib.ListN.{get_or}
 use borrow.Author.Rules.{rules}
 use borrow.Author.Tests.{leb-true, leb-false}
 use Rattle.fibonacci.specs.Code.{first}
-use Rattle.fibonacci.specs.Leaves.{numberOrZero}
+use Rattle.fibonacci.specs.Leaves.{number_or_zero}
 use Rattle.fibonacci.proofs.Lookup.{entry_at}
 use Rattle.codewords.proofs.Codewords.{reached-one, reached-none}
 use Rattle.codewords.proofs.one_if_reached.Statement.{statement}
@@ -23,7 +23,7 @@ wide-requires : tie.Need-wide-requires
 wide-requires c κs = search rules
 
 -- what is looked up
-looked : (c : tie.After-wide) → c.wide.result ≡ numberOrZero (first c.before.before.args.order c.before.before.args.d)
+looked : (c : tie.After-wide) → c.wide.result ≡ number_or_zero (first c.before.before.args.order c.before.before.args.d)
 looked c =
     let z = c.before.before in
     c.wide.ensures ∙ ap (λ (l : List ℕ). get_or l z.args.d 0) z.requires.0.1 ∙ entry_at (first z.args.order) z.args.d 0 z.requires.1

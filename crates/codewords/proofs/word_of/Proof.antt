@@ -5,7 +5,7 @@ use native.Mathlib.Omega.{arith}
 use lib.ListN.{get_or}
 use lib.Pow.{pow_mono}
 use borrow.Author.Rules.{rules}
-use Rattle.bits.specs.Bits.{wordBits}
+use Rattle.bits.specs.Bits.{word_bits}
 use Rattle.fibonacci.specs.Code.{codeword}
 use Rattle.fibonacci.proofs.Lookup.{codeword-short}
 use Rattle.codewords.specs.Leaves.{low_word}
@@ -39,7 +39,7 @@ looked c =
 made : (c : tie.After-wide)
     → let a = c.before.before.before.before.args in
     let r = c.before.before.high-digits.result.word + c.wide.result * 2 ^ (a.d + a.order) % 2 ^ 64 / 2 ^ c.before.before.before.low_count.result in
-    (wordBits (a.d + a.order) r ≡ codeword a.order a.n) × (r < 2 ^ (a.d + a.order))
+    (word_bits (a.d + a.order) r ≡ codeword a.order a.n) × (r < 2 ^ (a.d + a.order))
 made c =
     let z = c.before.before.before.before in
     let h = c.before.before.high-digits in

@@ -2,8 +2,8 @@ use mathlib.Core.Path.{◌≡◌, sym, ◌∙◌}
 use mathlib.Core.Bool.{true}
 use native.Mathlib.Omega.{arith}
 use borrow.Author.Rules.{rules}
-use borrow.Author.Tests.{not-true, not-false}
-use Rattle.calls.specs.Limits.{is_order, maxNumber}
+use borrow.Author.Tests.{not_true, not-false}
+use Rattle.calls.specs.Limits.{is_order, max_number}
 use Rattle.calls.specs.Reading.{decode}
 use Rattle.calls.proofs.Checks.{order_is}
 use Rattle.reading.specs.Reading.{fibonacci}
@@ -20,7 +20,7 @@ is-order-requires : tie.Need-is-order-requires
 is-order-requires c κs = search rules
 
 returns : tie.Need-returns
-returns c = read-order _ _ _ (sym c.before.is-order.ensures ∙ not-true _ c.if1.true)
+returns c = read-order _ _ _ (sym c.before.is-order.ensures ∙ not_true _ c.if1.true)
 
 slice-aggregate-store-row : tie.Need-slice-aggregate-store-row
 slice-aggregate-store-row c = search rules
@@ -35,7 +35,7 @@ deliver-requires : tie.Need-deliver-requires
 deliver-requires c κs =
     let r = c.before.before.before in
     let a = r.before.before.before.before.before.before.before.args in
-    holds_row (decode (fibonacci a.order) maxNumber a.s.now) r.store-row.new.1.1.1.0 r.store-row.result r.store-row.ensures
+    holds_row (decode (fibonacci a.order) max_number a.s.now) r.store-row.new.1.1.1.0 r.store-row.result r.store-row.ensures
 
 same_length : tie.Need-same-length
 same_length c = search rules
@@ -59,7 +59,7 @@ deliver-requires-2 : tie.Need-deliver-requires-2
 deliver-requires-2 c κs =
     let r = c.before.before.before in
     let a = r.before.before.before.before.before.before.before.args in
-    holds_row (decode (fibonacci a.order) maxNumber a.s.now) r.store-row2.new.1.1.1.0 r.store-row2.result r.store-row2.ensures
+    holds_row (decode (fibonacci a.order) max_number a.s.now) r.store-row2.new.1.1.1.0 r.store-row2.result r.store-row2.ensures
 
 same-length-2 : tie.Need-same-length-2
 same-length-2 c = search rules

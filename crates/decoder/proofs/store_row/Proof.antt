@@ -9,7 +9,7 @@ use borrow.Author.Rules.{rules}
 use borrow.Author.Tests.{ltb-true, ltb-false}
 use Rattle.bits.specs.Bits.{unpack}
 use Rattle.bits.proofs.Bytes.{unpack-length}
-use Rattle.calls.specs.Limits.{maxCount, maxBytes}
+use Rattle.calls.specs.Limits.{max_count, max_bytes}
 use Rattle.calls.proofs.Decoding.{decode-long, decode-contents}
 use Rattle.reading.specs.Reading.{fibonacci}
 use Rattle.word_decoder.specs.Leaves.{DecodedPrefix}
@@ -24,7 +24,7 @@ abbrev invariant-loop : tie.invariant-loop
 invariant-loop order s limit row₀ firsts bit₀ count₀ row bit count = DecodedPrefix order limit (unpack s) bit count (take count row) × (length row ≡ length row₀)
 
 abbrev decreases-loop : tie.decreases-loop
-decreases-loop order s limit row₀ firsts bit₀ count₀ row bit count = maxCount - count
+decreases-loop order s limit row₀ firsts bit₀ count₀ row bit count = max_count - count
 
 abbrev start : tie.At-loop invariant-loop decreases-loop → tie.Start invariant-loop decreases-loop
 start l = l.before.before.before.before.before.before.before.before.before.before.before
@@ -34,8 +34,8 @@ sized : (l : tie.At-loop invariant-loop decreases-loop) → length l.loop.row �
 sized l = l.loop.invariant.1 ∙ l.before.before.before.store_words_lem.ensures.1
 
 -- the bytes are not too many
-short : (c : tie.Else1 invariant-loop decreases-loop) → length c.before.before.before.before.args.s.now ≤ maxBytes
-short c = ltb-false maxBytes _ (sym c.before.too_long.ensures ∙ c.if1.false)
+short : (c : tie.Else1 invariant-loop decreases-loop) → length c.before.before.before.before.args.s.now ≤ max_bytes
+short c = ltb-false max_bytes _ (sym c.before.too_long.ensures ∙ c.if1.false)
 
 -- where a step leads
 led : (c : tie.After-next-number invariant-loop decreases-loop)
@@ -55,7 +55,7 @@ module _ (c : tie.After-next invariant-loop decreases-loop) where
   abbrev n : ℕ
   n = c.next.given.0.0
 
-  more : (at.loop.count < maxCount)
+  more : (at.loop.count < max_count)
       × DecodedPrefix (start at).args.order (start at).args.limit (unpack (start at).args.s.now) c.next.given.0.1.0 (at.loop.count + 1) (take at.loop.count at.loop.row ++ (n ∷ []))
   more = led c.before.before (Number n c.next.given.0.1.0) c.next.given.1
 

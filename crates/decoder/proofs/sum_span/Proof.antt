@@ -10,9 +10,9 @@ use borrow.Author.Tests.{ltb-true, ltb-false}
 use Rattle.lists.specs.Lists.{sum}
 use Rattle.bits.specs.Bits.{unpack}
 use Rattle.bits.proofs.Bytes.{unpack-length}
-use Rattle.fibonacci.specs.Encoding.{rowBits}
+use Rattle.fibonacci.specs.Encoding.{row_bits}
 use Rattle.calls.specs.Calls.{accepted}
-use Rattle.calls.specs.Limits.{maxCount, maxBytes}
+use Rattle.calls.specs.Limits.{max_count, max_bytes}
 use Rattle.calls.proofs.Decoding.{decode-long, decode-contents}
 use Rattle.reading.specs.Reading.{fibonacci}
 use Rattle.word_decoder.specs.Leaves.{DecodedPrefix, Spanned}
@@ -29,14 +29,14 @@ invariant-loop order s limit from to firsts bits₀ count₀ total₀ all₀ sta
     Spanned order limit from to (unpack s) (record { bit = bits; count = count; sum = total; all = all; start = start })
 
 abbrev decreases-loop : tie.decreases-loop
-decreases-loop order s limit from to firsts bits₀ count₀ total₀ all₀ start₀ bits count total all start = maxCount - count
+decreases-loop order s limit from to firsts bits₀ count₀ total₀ all₀ start₀ bits count total all start = max_count - count
 
 abbrev start : tie.At-loop invariant-loop decreases-loop → tie.Start invariant-loop decreases-loop
 start l = l.before.before.before.before.before.before.before
 
 -- the bytes are not too many
-short : (c : tie.Else1 invariant-loop decreases-loop) → length c.before.before.before.args.s.now ≤ maxBytes
-short c = ltb-false maxBytes _ (sym c.before.too_long.ensures ∙ c.if1.false)
+short : (c : tie.Else1 invariant-loop decreases-loop) → length c.before.before.before.args.s.now ≤ max_bytes
+short c = ltb-false max_bytes _ (sym c.before.too_long.ensures ∙ c.if1.false)
 
 -- where a step leads
 led : (c : tie.After-next-number invariant-loop decreases-loop)
@@ -56,7 +56,7 @@ module _ (c : tie.After-count-in-span invariant-loop decreases-loop) where
   abbrev n : ℕ
   n = c.before.before.next.given.0.0
 
-  more : (at.loop.count < maxCount)
+  more : (at.loop.count < max_count)
       × DecodedPrefix (start at).args.order (start at).args.limit (unpack (start at).args.s.now) c.before.before.next.given.0.1.0 (at.loop.count + 1) (at.loop.inv.row ++ (n ∷ []))
   more = led c.before.before.before.before (Number n c.before.before.next.given.0.1.0) c.before.before.next.given.1
 
@@ -68,10 +68,10 @@ told : {m limit from to : ℕ} {b : List Bool} {f : SpanProgress} (g : Spanned m
     → accepted (record { count = f.count; bits = f.bit; total = f.sum; all = f.all; start = f.start }) ≡ accepted (summary m from to g.row)
 told {m} {limit} {from} {to} {b} {f} g =
     let c : f.count ≡ length g.row = sym g.decoded.many in
-    let e : f.bit ≡ length (rowBits m g.row) = decoded-end g.decoded in
+    let e : f.bit ≡ length (row_bits m g.row) = decoded-end g.decoded in
     let t : f.sum ≡ sum (slice from to g.row) = g.total in
     let a : f.all ≡ sum g.row = g.everything in
-    let s : f.start ≡ length (rowBits m (take from g.row)) = g.starts in cc
+    let s : f.start ≡ length (row_bits m (take from g.row)) = g.starts in cc
 
 returns : tie.Need-returns invariant-loop decreases-loop
 returns c = let a = c.before.before.before.args in rw (decode-long (fibonacci a.order) a.limit a.s.now (ltb-true _ _ (sym c.before.too_long.ensures ∙ c.if1.true))) refl

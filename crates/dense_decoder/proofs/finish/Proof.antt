@@ -4,7 +4,7 @@ use native.Mathlib.Omega.{arith}
 use native.Mathlib.Nat.{mul-le-mul}
 use lib.ListN.{length}
 use borrow.Author.Rules.{rules}
-use Rattle.calls.specs.Limits.{maxNumber}
+use Rattle.calls.specs.Limits.{max_number}
 use Rattle.dense.specs.Limits.{continuers}
 use Rattle.dense_decoder.specs.declared.Step.TheVariants.{Large}
 use Rattle.dense_decoder.specs.Leaves.{Finished}
@@ -13,20 +13,20 @@ use Rattle.dense_decoder.proofs.finish.Statement.{statement}
 use Rattle.dense_decoder.proofs.finish.Tie as tie
 
 abbrev invariant-loop : tie.invariant-loop
-invariant-loop b from stoppers limit y continuers highest string₀ i₀ string i = Finished stoppers b i × (string ≤ maxNumber) × Passed stoppers b from y i string
+invariant-loop b from stoppers limit y continuers highest string₀ i₀ string i = Finished stoppers b i × (string ≤ max_number) × Passed stoppers b from y i string
 
 abbrev decreases-loop : tie.decreases-loop
 decreases-loop b from stoppers limit y continuers highest string₀ i₀ string i = length b - i
 
 -- what the string is multiplied with is small, and so are the products
 number_small : (w : tie.After-wide invariant-loop decreases-loop)
-    → w.before.before.loop.string * w.before.before.before.before.args.stoppers ≤ maxNumber * 256
+    → w.before.before.loop.string * w.before.before.before.before.args.stoppers ≤ max_number * 256
 number_small w =
     let h : w.before.before.before.before.args.stoppers ≤ 256 = omega (arith, w.before.before.before.before.requires.0.1) in
     mul-le-mul w.before.before.loop.invariant.1 h
 
 string-small : (w : tie.After-wide invariant-loop decreases-loop)
-    → w.before.before.loop.string * continuers w.before.before.before.before.args.stoppers ≤ maxNumber * 256
+    → w.before.before.loop.string * continuers w.before.before.before.before.args.stoppers ≤ max_number * 256
 string-small w =
     let h : continuers w.before.before.before.before.args.stoppers ≤ 256 = omega arith in
     mul-le-mul w.before.before.loop.invariant.1 h

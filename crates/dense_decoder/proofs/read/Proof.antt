@@ -2,11 +2,11 @@ use mathlib.Core.Path.{◌≡◌, sym, ◌∙◌}
 use mathlib.Core.Bool.{true}
 use native.Mathlib.Omega.{arith}
 use borrow.Author.Rules.{rules}
-use borrow.Author.Tests.{not-true, not-false}
-use Rattle.calls.specs.Limits.{maxNumber}
+use borrow.Author.Tests.{not_true, not-false}
+use Rattle.calls.specs.Limits.{max_number}
 use Rattle.calls.specs.Reading.{decode}
 use Rattle.calls.proofs.Decoding.{holds_row}
-use Rattle.dense.specs.Limits.{isStoppers}
+use Rattle.dense.specs.Limits.{is_stoppers}
 use Rattle.dense.proofs.Limits.{stoppers-is}
 use Rattle.dense_decoder.specs.Reading.{dense}
 use Rattle.dense_decoder.proofs.Reading.{read-stoppers, delivered-read}
@@ -14,14 +14,14 @@ use Rattle.dense_decoder.proofs.read.Statement.{statement}
 use Rattle.dense_decoder.proofs.read.Tie as tie
 
 -- s has passed its check
-checked : (c : tie.Else1) → isStoppers c.before.before.before.before.args.stoppers ≡ true
+checked : (c : tie.Else1) → is_stoppers c.before.before.before.before.args.stoppers ≡ true
 checked c = sym c.before.is-stoppers.ensures ∙ not-false _ c.if1.false
 
 is-stoppers-requires : tie.Need-is-stoppers-requires
 is-stoppers-requires c κs = search rules
 
 returns : tie.Need-returns
-returns c = read-stoppers _ _ _ (sym c.before.is-stoppers.ensures ∙ not-true _ c.if1.true)
+returns c = read-stoppers _ _ _ (sym c.before.is-stoppers.ensures ∙ not_true _ c.if1.true)
 
 slice-aggregate-store-row : tie.Need-slice-aggregate-store-row
 slice-aggregate-store-row c = search rules
@@ -36,7 +36,7 @@ deliver-requires : tie.Need-deliver-requires
 deliver-requires c κs =
     let r = c.before.before.before in
     let a = r.before.before.before.before.before.before.before.args in
-    holds_row (decode (dense a.stoppers) maxNumber a.b.now) r.store-row.new.1.1.1.0 r.store-row.result r.store-row.ensures
+    holds_row (decode (dense a.stoppers) max_number a.b.now) r.store-row.new.1.1.1.0 r.store-row.result r.store-row.ensures
 
 same_length : tie.Need-same-length
 same_length c = search rules
@@ -60,7 +60,7 @@ deliver-requires-2 : tie.Need-deliver-requires-2
 deliver-requires-2 c κs =
     let r = c.before.before.before in
     let a = r.before.before.before.before.before.before.before.args in
-    holds_row (decode (dense a.stoppers) maxNumber a.b.now) r.store-row2.new.1.1.1.0 r.store-row2.result r.store-row2.ensures
+    holds_row (decode (dense a.stoppers) max_number a.b.now) r.store-row2.new.1.1.1.0 r.store-row2.result r.store-row2.ensures
 
 same-length-2 : tie.Need-same-length-2
 same-length-2 c = search rules

@@ -4,7 +4,7 @@ use native.Mathlib.Omega.{arith}
 use lib.ListN.{length, take, drop, length-set}
 use borrow.Author.Rules.{rules}
 use Rattle.calls.specs.Calls.{accepted}
-use Rattle.calls.specs.Limits.{maxCount}
+use Rattle.calls.specs.Limits.{max_count}
 use Rattle.calls.proofs.Decoding.{decode-long, decode-contents}
 use Rattle.dense.specs.Encoding.{Rest}
 use Rattle.dense_decoder.specs.declared.Step.{Step}
@@ -23,13 +23,13 @@ abbrev decreases-loop : tie.decreases-loop
 decreases-loop stoppers b limit row₀ end i₀ count₀ row i count = length b - i
 
 -- what stands next, and what is known before it
-less : (t : tie.After-next invariant-loop decreases-loop) → t.before.before.before.loop.count < maxCount
+less : (t : tie.After-next invariant-loop decreases-loop) → t.before.before.before.loop.count < max_count
 less t = omega (arith, t.before.before.before.loop.invariant.1.many)
 
 within : (t : tie.After-next invariant-loop decreases-loop) → t.before.before.before.loop.i < length t.before.before.before.before.before.before.before.before.args.b.now
 within t = omega (arith, t.before.before.before.before.finished-end.ensures.0)
 
-room : (t : tie.After-next invariant-loop decreases-loop) → min maxCount (length t.before.before.before.before.before.before.before.before.args.b.now) ≤ length t.before.before.before.loop.row
+room : (t : tie.After-next invariant-loop decreases-loop) → min max_count (length t.before.before.before.before.before.before.before.before.args.b.now) ≤ length t.before.before.before.loop.row
 room t = omega (arith, t.before.before.before.before.before.before.before.before.requires.2, t.before.before.before.loop.invariant.0)
 
 front : (t : tie.After-next invariant-loop decreases-loop) (r : Step) → t.next.result ≡ r

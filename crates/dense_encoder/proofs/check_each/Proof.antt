@@ -3,10 +3,10 @@ use Prim.Native.Nat.{◌-◌, ◌≤◌}
 use native.Mathlib.Omega.{arith}
 use lib.ListN.{length, drop, drop_of_length-le}
 use borrow.Author.Rules.{rules}
-use borrow.Author.Tests.{not-true, not-false}
+use borrow.Author.Tests.{not_true, not-false}
 use Rattle.calls.specs.declared.Refusal.TheVariants.{BadNumber}
 use Rattle.calls.specs.Calls.{accepted}
-use Rattle.calls.specs.Limits.{checkEach}
+use Rattle.calls.specs.Limits.{check_each}
 use Rattle.calls.proofs.Checks.{each_more, each-fault}
 use Rattle.dense_encoder.proofs.check_each.Statement.{statement}
 use Rattle.dense_encoder.proofs.check_each.Tie as tie
@@ -15,7 +15,7 @@ use Rattle.dense_encoder.proofs.check_each.Tie as tie
 abbrev invariant-loop : tie.invariant-loop
 invariant-loop row limit i₀ i-end i =
     (i ≤ i-end) × (i-end ≡ length row)
-    × (checkEach BadNumber limit 0 row (accepted (length row)) ≡ checkEach BadNumber limit i (drop i row) (accepted (length row)))
+    × (check_each BadNumber limit 0 row (accepted (length row)) ≡ check_each BadNumber limit i (drop i row) (accepted (length row)))
 
 abbrev decreases-loop : tie.decreases-loop
 decreases-loop row limit i₀ i-end i = i-end - i
@@ -40,7 +40,7 @@ returns c =
     let a = c.before.before.before.before.before.before.before.args in
     let l = c.before.before.before.before.before.loop in
     let n = c.before.before.wide in
-    let fault = sym c.before.is-number.ensures ∙ not-true _ c.if1.true in
+    let fault = sym c.before.is-number.ensures ∙ not_true _ c.if1.true in
     sym (l.invariant.2 ∙ each-fault BadNumber a.limit a.row.now l.i n.result (omega arith) n.ensures (accepted (length a.row.now)) fault)
 
 add-i : tie.Need-overflow-add-i invariant-loop decreases-loop
@@ -61,7 +61,7 @@ loop-again c =
     )
 
 returns-2 : tie.Need-returns-2 invariant-loop decreases-loop
-unfolding checkEach
+unfolding check_each
 returns-2 c =
     let a = c.before.before.before.args in
     let l = c.before.loop in

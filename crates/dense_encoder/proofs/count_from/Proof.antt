@@ -6,13 +6,13 @@ use lib.ListN.{length, take}
 use lib.Seq.{take_all}
 use borrow.Author.Rules.{rules}
 use Rattle.lists.specs.Lists.{filter}
-use Rattle.dense_encoder.specs.Leaves.{countFrom}
+use Rattle.dense_encoder.specs.Leaves.{count_from}
 use Rattle.dense_encoder.proofs.Sizes.{count-pass, count-fail}
 use Rattle.dense_encoder.proofs.count_from.Statement.{statement}
 use Rattle.dense_encoder.proofs.count_from.Tie as tie
 
 abbrev invariant-loop : tie.invariant-loop
-invariant-loop row low count₀ i₀ i-end count i = (i ≤ i-end) × (i-end ≡ length row) × (count ≤ i) × (count ≡ countFrom low (take i row))
+invariant-loop row low count₀ i₀ i-end count i = (i ≤ i-end) × (i-end ≡ length row) × (count ≤ i) × (count ≡ count_from low (take i row))
 
 abbrev decreases-loop : tie.decreases-loop
 decreases-loop row low count₀ i₀ i-end count i = i-end - i
@@ -50,7 +50,7 @@ returns : tie.Need-returns invariant-loop decreases-loop
 returns c =
     let a = c.before.before.args in
     let l = c.before.loop in
-    l.invariant.3 ∙ ap (countFrom a.low) (take_all l.i a.row.now (omega arith))
+    l.invariant.3 ∙ ap (count_from a.low) (take_all l.i a.row.now (omega arith))
 
 pub count-from-spec : {M : Type 1} → statement M
 count-from-spec =

@@ -2,8 +2,8 @@ use mathlib.Core.Path.{sym, ap, ◌∙◌}
 use native.Mathlib.Omega.{arith}
 use borrow.Author.Rules.{rules}
 use Rattle.calls.specs.declared.Refusal.TheVariants.{BadNumber}
-use Rattle.calls.specs.Calls.{countOutcome}
-use Rattle.calls.specs.Limits.{maxNumber}
+use Rattle.calls.specs.Calls.{count_outcome}
+use Rattle.calls.specs.Limits.{max_number}
 use Rattle.calls.proofs.Checks.{each-accepted}
 use Rattle.dense_encoder.specs.Leaves.{Checked}
 use Rattle.dense_encoder.proofs.Writing.{write-count, write-number, write-room, write_done}
@@ -25,8 +25,8 @@ enum_told c = search rules
 -- no number is at fault
 passed : (c : tie.After-enum-told) → Checked c.before.before.before.before.before.args.row.now
 passed c =
-    let got = sym c.before.before.check-each.ensures ∙ ap countOutcome c.enum_told.given.1 in
-    (omega arith, (each-accepted BadNumber maxNumber 0 _ _ _ got).0)
+    let got = sym c.before.before.check-each.ensures ∙ ap count_outcome c.enum_told.given.1 in
+    (omega arith, (each-accepted BadNumber max_number 0 _ _ _ got).0)
 
 size-requires : tie.Need-size-requires
 size-requires c κs = (c.before.before.before.before.before.requires, passed c)
@@ -40,7 +40,7 @@ returns-3 : tie.Need-returns-3
 returns-3 c =
     let m = c.before in
     write-number _ _ _ m.before.before.before.before.before.requires _ _ (omega arith)
-    (sym (ap countOutcome m.checked.given.1) ∙ m.before.before.check-each.ensures)
+    (sym (ap count_outcome m.checked.given.1) ∙ m.before.before.check-each.ensures)
 
 returns-4 : tie.Need-returns-4
 returns-4 c =

@@ -3,7 +3,7 @@ use Prim.Native.Nat.{◌-◌, ◌≤◌}
 use native.Mathlib.Omega.{arith}
 use lib.ListN.{length}
 use borrow.Author.Rules.{rules}
-use Rattle.calls.specs.Limits.{maxNumber}
+use Rattle.calls.specs.Limits.{max_number}
 use Rattle.calls.proofs.Checks.{number_is, legal-at}
 use Rattle.dense.specs.Limits.{continuers}
 use Rattle.dense_encoder.proofs.Putting.{Filled, filled-start, filled-room, filled_more, filled-end}
@@ -36,7 +36,7 @@ put-codeword-requires c κs =
     let start = c.before.before.before.before.before.before in
     let a = start.args in
     let l = c.before.before.before.loop in
-    let n = number_is maxNumber _ (legal-at maxNumber a.row.now (l.i - 1) start.requires.1.1 (omega arith)) in
+    let n = number_is max_number _ (legal-at max_number a.row.now (l.i - 1) start.requires.1.1 (omega arith)) in
     (start.requires.0, n.0, filled-room l.invariant.2 _ (omega arith) l.invariant.0 refl, omega (arith, l.invariant.1, l.invariant.2.fits))
 
 loop-less : tie.Need-loop-smaller invariant-loop decreases-loop

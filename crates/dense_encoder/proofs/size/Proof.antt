@@ -3,7 +3,7 @@ use Prim.Native.Nat.{suc, ◌-◌, ◌≤◌}
 use native.Mathlib.Omega.{arith}
 use native.Mathlib.Nat.{mul-le-mul_left}
 use borrow.Author.Rules.{rules}
-use Rattle.calls.specs.Limits.{maxNumber}
+use Rattle.calls.specs.Limits.{max_number}
 use Rattle.dense.specs.Limits.{continuers}
 use Rattle.dense.proofs.Long.{encoding-long}
 use Rattle.dense_encoder.proofs.Sizes.{Sized, sized-start, sized-few, sized-more, sized-none, sized-end}
@@ -14,7 +14,7 @@ abbrev invariant-loop : tie.invariant-loop
 invariant-loop stoppers row rest bytes₀ next₀ more₀ bytes next more = Sized stoppers (continuers stoppers) row bytes next more
 
 abbrev decreases-loop : tie.decreases-loop
-decreases-loop stoppers row rest bytes₀ next₀ more₀ bytes next more = suc maxNumber - next
+decreases-loop stoppers row rest bytes₀ next₀ more₀ bytes next more = suc max_number - next
 
 sub-continuers : tie.Need-overflow-sub-continuers invariant-loop decreases-loop
 sub-continuers c = search rules

@@ -2,11 +2,11 @@ use mathlib.Core.Path.{◌≡◌, sym, ap, ◌∙◌}
 use native.Mathlib.Omega.{arith}
 use lib.ListN.{length}
 use borrow.Author.Rules.{rules}
-use borrow.Author.Tests.{not-true, not-false}
-use Rattle.calls.specs.Calls.{accepted, countOutcome}
+use borrow.Author.Tests.{not_true, not-false}
+use Rattle.calls.specs.Calls.{accepted, count_outcome}
 use Rattle.dense.specs.Limits.{Stoppers}
 use Rattle.dense.proofs.Limits.{stoppers-is}
-use Rattle.dense_encoder.specs.Writing.{writeDense}
+use Rattle.dense_encoder.specs.Writing.{write_dense}
 use Rattle.dense_encoder.proofs.Writing.{write-stoppers, write-refused, write-asks, write-put}
 use Rattle.dense_encoder.proofs.write.Statement.{statement}
 use Rattle.dense_encoder.proofs.write.Tie as tie
@@ -15,7 +15,7 @@ is-stoppers-requires : tie.Need-is-stoppers-requires
 is-stoppers-requires c κs = search rules
 
 returns : tie.Need-returns
-returns c = write-stoppers _ _ _ (sym c.before.is-stoppers.ensures ∙ not-true _ c.if1.true)
+returns c = write-stoppers _ _ _ (sym c.before.is-stoppers.ensures ∙ not_true _ c.if1.true)
 
 checked : (c : tie.Else1) → Stoppers c.before.before.before.before.args.stoppers
 checked c = stoppers-is _ (sym c.before.is-stoppers.ensures ∙ not-false _ c.if1.false)
@@ -32,8 +32,8 @@ cast-put-row c = omega (arith, checked c.before.before.before.before.before)
 -- the row is to be written
 planned : (c : tie.After-planned)
     → let a = c.before.before.before.before.before.before.before.args in
-    accepted c.planned.given.0.0 ≡ writeDense a.stoppers a.row.now (length a.out.now)
-planned c = sym (ap countOutcome c.planned.given.1) ∙ c.before.before.plan.ensures
+    accepted c.planned.given.0.0 ≡ write_dense a.stoppers a.row.now (length a.out.now)
+planned c = sym (ap count_outcome c.planned.given.1) ∙ c.before.before.plan.ensures
 
 put-row-requires : tie.Need-put-row-requires
 put-row-requires c κs =
@@ -56,7 +56,7 @@ returns-2 c =
 returns-3 : tie.Need-returns-3
 returns-3 c =
     let e = c.before.before.plan.ensures in
-    (e, write-refused _ _ _ _ (sym (ap countOutcome c.enum_told.given.1) ∙ e))
+    (e, write-refused _ _ _ _ (sym (ap count_outcome c.enum_told.given.1) ∙ e))
 
 pub write_spec : {M : Type 1} → statement M
 write_spec =

@@ -5,10 +5,10 @@ use Prim.Native.Nat.{ℕ, ◌+◌, ◌-◌, ◌*◌, ◌/◌, ◌%◌, ◌^◌, 
 use native.Mathlib.Omega.{arith}
 use lib.ListN.{get_or}
 use borrow.Author.Rules.{rules}
-use Rattle.bits.specs.Bits.{wordBits}
+use Rattle.bits.specs.Bits.{word_bits}
 use Rattle.bits.proofs.Words.{words-mod}
 use Rattle.fibonacci.specs.Code.{value}
-use Rattle.calls.specs.Limits.{maxNumber}
+use Rattle.calls.specs.Limits.{max_number}
 use Rattle.digit_values.proofs.Bytes.{entry_at}
 use Rattle.digit_values.proofs.entry.Statement.{statement}
 use Rattle.digit_values.proofs.entry.Tie as tie
@@ -43,9 +43,9 @@ returns c =
     let m = z.args.order in
     let j : ℕ = 8 * z.args.c + 1 in
     let y : ℕ = z.args.x / 2 ^ (56 - 8 * z.args.c) in
-    let e : c.wide.result ≡ min maxNumber (value m j (wordBits 8 y)) =
+    let e : c.wide.result ≡ min max_number (value m j (word_bits 8 y)) =
     c.wide.ensures ∙ ap (λ (l : List ℕ). get_or l (256 * z.args.c + y % 256) 0) z.requires.0
-    ∙ entry_at m z.args.c (y % 256) z.requires.1 (omega arith) ∙ ap (λ (b : List Bool). min maxNumber (value m j b)) (words-mod 8 8 y (omega arith)) in
+    ∙ entry_at m z.args.c (y % 256) z.requires.1 (omega arith) ∙ ap (λ (b : List Bool). min max_number (value m j b)) (words-mod 8 8 y (omega arith)) in
     (e, omega arith)
 
 pub entry_spec : {M : Type 1} → statement M

@@ -6,9 +6,9 @@ use lib.ListN.{length}
 use borrow.Author.Rules.{rules}
 use Rattle.calls.specs.declared.Refusal.TheVariants.{BadNumber}
 use Rattle.calls.specs.Calls.{accepted}
-use Rattle.calls.specs.Limits.{is_order, maxNumber, maxCount, checkEach}
+use Rattle.calls.specs.Limits.{is_order, max_number, max_count, check_each}
 use Rattle.calls.proofs.Checks.{is-order}
-use Rattle.headers.specs.Headers.{headerOf, headerOutcome}
+use Rattle.headers.specs.Headers.{header_of, header_outcome}
 use Rattle.encoder.proofs.Writing.{write-count, write-number, bits_most, write-room, write_done}
 use Rattle.encoder.proofs.plan.Statement.{statement}
 use Rattle.encoder.proofs.plan.Tie as tie
@@ -32,13 +32,13 @@ enum-known-measured-2 c = search rules
 abbrev start : tie.After-measured2 → tie.Start
 start c = c.before.before.before.before.before
 
-few : (c : tie.After-measured2) → length (start c).args.row.now ≤ maxCount
+few : (c : tie.After-measured2) → length (start c).args.row.now ≤ max_count
 few c = omega arith
 
 got : (c : tie.After-measured2)
     → let a = (start c).args in
-    accepted c.measured2.given.0.0 ≡ checkEach BadNumber maxNumber 0 a.row.now (accepted (headerOf a.order a.row.now))
-got c = sym (ap headerOutcome c.measured2.given.1) ∙ c.before.before.measure.ensures
+    accepted c.measured2.given.0.0 ≡ check_each BadNumber max_number 0 a.row.now (accepted (header_of a.order a.row.now))
+got c = sym (ap header_outcome c.measured2.given.1) ∙ c.before.before.measure.ensures
 
 add-bytes : tie.Need-overflow-add-bytes
 add-bytes c =
@@ -55,7 +55,7 @@ returns-3 : tie.Need-returns-3
 returns-3 c =
     let m = c.before in
     write-number _ _ _ (ordered m.before.before.before.before.before) (omega arith) _ _
-    (sym (ap headerOutcome m.decreases.given.1) ∙ m.before.before.measure.ensures)
+    (sym (ap header_outcome m.decreases.given.1) ∙ m.before.before.measure.ensures)
 
 returns-4 : tie.Need-returns-4
 returns-4 c =

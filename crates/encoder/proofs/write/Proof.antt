@@ -1,10 +1,10 @@
 use mathlib.Core.Path.{◌≡◌, sym, ap, ◌∙◌}
 use lib.ListN.{length}
 use borrow.Author.Rules.{rules}
-use borrow.Author.Tests.{not-true, not-false}
+use borrow.Author.Tests.{not_true, not-false}
 use Rattle.calls.specs.Calls.{accepted}
 use Rattle.calls.proofs.Checks.{order_is}
-use Rattle.headers.specs.Headers.{encodingOutcome}
+use Rattle.headers.specs.Headers.{encoding_outcome}
 use Rattle.encoder.specs.Writing.{write}
 use Rattle.encoder.proofs.Writing.{write-order, write-refused, write-asks, write-put}
 use Rattle.encoder.proofs.write.Statement.{statement}
@@ -14,7 +14,7 @@ is-order-requires : tie.Need-is-order-requires
 is-order-requires c κs = search rules
 
 returns : tie.Need-returns
-returns c = write-order _ _ _ (sym c.before.is-order.ensures ∙ not-true _ c.if1.true)
+returns c = write-order _ _ _ (sym c.before.is-order.ensures ∙ not_true _ c.if1.true)
 
 first-numbers-requires : tie.Need-first-numbers-requires
 first-numbers-requires c κs = order_is _ (sym c.before.is-order.ensures ∙ not-false _ c.if1.false)
@@ -38,7 +38,7 @@ low-digits-requires c κs = search rules
 planned : (c : tie.After-planned2)
     → let a = c.before.before.before.before.before.before.before.before.before.args in
     accepted (c.planned2.given.0.0, c.planned2.given.0.1.0) ≡ write a.order a.row.now (length a.out.now)
-planned c = sym (ap encodingOutcome c.planned2.given.1) ∙ c.before.before.plan.ensures
+planned c = sym (ap encoding_outcome c.planned2.given.1) ∙ c.before.before.plan.ensures
 
 put-row-requires : tie.Need-put-row-requires
 put-row-requires c κs =
@@ -52,7 +52,7 @@ put-row-requires c κs =
 returns-2 : tie.Need-returns-2
 returns-2 c =
     let m = c.before in
-    let e = sym (ap encodingOutcome m.planned.given.1) ∙ m.before.before.plan.ensures in
+    let e = sym (ap encoding_outcome m.planned.given.1) ∙ m.before.before.plan.ensures in
     (e, write-refused _ _ _ _ e)
 
 same_length : tie.Need-same-length

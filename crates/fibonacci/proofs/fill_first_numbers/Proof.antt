@@ -5,7 +5,7 @@ use Prim.Native.Nat.{ℕ}
 use native.Mathlib.Omega.{arith}
 use borrow.Author.Rules.{rules}
 use Rattle.fibonacci.specs.Code.{past, F, first}
-use Rattle.fibonacci.specs.Leaves.{recursAfter, numberOrZero, tableRow}
+use Rattle.fibonacci.specs.Leaves.{recurs_after, number_or_zero, table_row}
 use Rattle.fibonacci.proofs.Lookup.{row-order-2}
 use Rattle.fibonacci.proofs.fill_first_numbers.Statement.{statement}
 use Rattle.fibonacci.proofs.fill_first_numbers.Tie as tie
@@ -26,39 +26,39 @@ copy-requires : tie.Need-copy-requires
 copy-requires c κs = search rules
 
 returns : tie.Need-returns
-unfolding tableRow numberOrZero first F past
+unfolding table_row number_or_zero first F past
 returns c =
     let z = c.before in
     let e : 3 ≡ z.args.order = omega arith in
-    (z.requires, ap (λ (m : ℕ). tableRow (first m)) e)
+    (z.requires, ap (λ (m : ℕ). table_row (first m)) e)
 
 returns-2 : tie.Need-returns-2
-unfolding tableRow numberOrZero first F past
+unfolding table_row number_or_zero first F past
 returns-2 c =
     let z = c.before.before in
     let e : 4 ≡ z.args.order = omega arith in
-    (z.requires, ap (λ (m : ℕ). tableRow (first m)) e)
+    (z.requires, ap (λ (m : ℕ). table_row (first m)) e)
 
 returns-3 : tie.Need-returns-3
-unfolding tableRow numberOrZero first F past
+unfolding table_row number_or_zero first F past
 returns-3 c =
     let z = c.before.before.before in
     let e : 5 ≡ z.args.order = omega arith in
-    (z.requires, ap (λ (m : ℕ). tableRow (first m)) e)
+    (z.requires, ap (λ (m : ℕ). table_row (first m)) e)
 
 returns-4 : tie.Need-returns-4
-unfolding tableRow numberOrZero first F past
+unfolding table_row number_or_zero first F past
 returns-4 c =
     let z = c.before.before.before.before in
     let e : 6 ≡ z.args.order = omega arith in
-    (z.requires, ap (λ (m : ℕ). tableRow (first m)) e)
+    (z.requires, ap (λ (m : ℕ). table_row (first m)) e)
 
 returns-5 : tie.Need-returns-5
-unfolding recursAfter
+unfolding recurs_after
 returns-5 c =
     let z = c.before.before.before.before.before.before.before.before.before in
     let e : 2 ≡ z.args.order = omega arith in
-    (z.requires, c.before.copy.ensures ∙ row-order-2 _ refl refl ∙ ap (λ (m : ℕ). tableRow (first m)) e)
+    (z.requires, c.before.copy.ensures ∙ row-order-2 _ refl refl ∙ ap (λ (m : ℕ). table_row (first m)) e)
 
 pub fill-first-numbers-spec : {M : Type 1} → statement M
 fill-first-numbers-spec =

@@ -4,7 +4,7 @@ use Prim.Native.Nat.{ℕ}
 use native.Mathlib.Omega.{arith}
 use borrow.Author.Rules.{rules}
 use Rattle.fibonacci.specs.Code.{past, F, first}
-use Rattle.fibonacci.specs.Leaves.{numberOrZero, tableRow}
+use Rattle.fibonacci.specs.Leaves.{number_or_zero, table_row}
 use Rattle.fibonacci.proofs.Lookup.{table_of, row_at}
 use Rattle.fibonacci.proofs.first_numbers.Statement.{statement}
 use Rattle.fibonacci.proofs.first_numbers.Tie as tie
@@ -16,7 +16,7 @@ returns : tie.Need-returns
 returns c =
     let z = c.before.before.before in
     let e : 2 ≡ z.args.order = omega arith in
-    (z.requires, c.fill-first-numbers.ensures.1 ∙ ap (λ (m : ℕ). tableRow (first m)) e)
+    (z.requires, c.fill-first-numbers.ensures.1 ∙ ap (λ (m : ℕ). table_row (first m)) e)
 
 sub-i : tie.Need-overflow-sub-i
 sub-i c = search rules
@@ -28,7 +28,7 @@ array-copy-out-result : tie.Need-array-copy-out-result
 array-copy-out-result c = search rules
 
 returns-2 : tie.Need-returns-2
-unfolding table_of tableRow numberOrZero first F past
+unfolding table_of table_row number_or_zero first F past
 returns-2 c =
     let z = c.before.before in
     (z.requires, row_at first z.args.order _ (omega (arith, c.before.if1.false)) z.requires.1)

@@ -2,7 +2,7 @@
 use mathlib.Core.Path.{refl}
 use mathlib.Core.List.{[]}
 use borrow.Author.Rules.{rules}
-use Rattle.fibonacci.specs.Leaves.{recursAfter, recurs}
+use Rattle.fibonacci.specs.Leaves.{recurs_after, recurs}
 use Rattle.fibonacci.proofs.Lookup.{rows-recur}
 use Rattle.fibonacci.proofs.positions.Statement.{statement}
 use Rattle.fibonacci.proofs.positions.Reads as reads
@@ -22,7 +22,7 @@ array-copy-out-result c = search rules
 returns : tie.Need-returns
 returns c =
     let table = (lts.m22 reads.Pre reads.Post c.before.args c.before.blocks).1.1.1.0 in
-    (c.before.requires, rows-recur table [] c.before.args.order c.before.requires (unfold recurs recursAfter in refl))
+    (c.before.requires, rows-recur table [] c.before.args.order c.before.requires (unfold recurs recurs_after in refl))
 
 pub positions-spec : {M : Type 1} → statement M
 positions-spec = tie.close (tie.spec sub-i mul-result array-copy-out-result returns)

@@ -3,14 +3,14 @@ use Prim.Native.Nat.{◌≤◌}
 use native.Mathlib.Omega.{arith}
 use lib.ListN.{length}
 use lib.Seq.{length-take-le}
-use Rattle.listing.specs.Leaves.{bytesRead}
+use Rattle.listing.specs.Leaves.{bytes_read}
 use borrow.Author.Rules.{rules}
 use Rattle.listing.proofs.main.Statement.{statement}
 use Rattle.listing.proofs.main.Tie as tie
 
 -- the input is in the buffer
 within : (c : tie.After-known-told) → c.before.input.given.0.0 ≤ length c.before.before.before.before.read.new.0
-within c = subst (λ r. bytesRead r ≤ length c.before.before.before.before.read.new.0) c.before.input.given.1 c.before.before.before.before.read.ensures
+within c = subst (λ r. bytes_read r ≤ length c.before.before.before.before.read.new.0) c.before.input.given.1 c.before.before.before.before.read.ensures
 
 slice-aggregate-read : tie.Need-slice-aggregate-read
 slice-aggregate-read c = search rules

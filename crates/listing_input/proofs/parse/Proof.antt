@@ -4,9 +4,9 @@ use Prim.Native.Nat.{ℕ, ◌+◌, ◌-◌, ◌*◌, ◌≤◌}
 use native.Mathlib.Omega.{arith}
 use lib.ListN.{length, take, length-set, length-take}
 use borrow.Author.Rules.{rules}
-use borrow.Author.Tests.{not-true, not-false}
+use borrow.Author.Tests.{not_true, not-false}
 use Rattle.columns.specs.Columns.{decimal}
-use Rattle.listing_input.specs.Input.{inputLine, same}
+use Rattle.listing_input.specs.Input.{input_line, same}
 use Rattle.listing_input.proofs.Input.{after, Parsed, input_none, input-rest, parsed-none, parsed-other, parsed-more, parsed-end}
 use Rattle.listing_input.proofs.parse.Statement.{statement}
 use Rattle.listing_input.proofs.parse.Tie as tie
@@ -22,7 +22,7 @@ read : (c : tie.After-is-line invariant-loop decreases-loop)
     → let s = c.before.before.before.before.before.before.before.before.before.args.input.now in
     let i = c.before.before.before.before.before.loop.i in
     let n = c.before.before.decimal.result in
-    (n ≡ decimal (take 10 (after s i))) × (c.is-line.result ≡ same (take 11 (after s i)) (inputLine n))
+    (n ≡ decimal (take 10 (after s i))) × (c.is-line.result ≡ same (take 11 (after s i)) (input_line n))
 read c =
     let s = c.before.before.before.before.before.before.before.before.before.args.input.now in
     let i = c.before.before.before.before.before.loop.i in
@@ -30,7 +30,7 @@ read c =
     let ten : i * 11 + 10 - i * 11 ≡ 10 = omega arith in
     let eleven : i * 11 + 11 - i * 11 ≡ 11 = omega arith in (
       c.before.before.decimal.ensures ∙ ap (λ (k : ℕ). decimal (take k (after s i))) ten,
-      c.is-line.ensures ∙ ap (λ (k : ℕ). same (take k (after s i)) (inputLine n)) eleven,
+      c.is-line.ensures ∙ ap (λ (k : ℕ). same (take k (after s i)) (input_line n)) eleven,
     )
 
 returns : tie.Need-returns invariant-loop decreases-loop
@@ -83,7 +83,7 @@ returns-3 c =
     let a = c.before.before.before.before.before.before.before.before.before.before.args in
     let l = c.before.before.before.before.before.before.loop in
     let r = read c.before in (
-      sym (parsed-other a.input.now l.i (omega arith) _ r.0 l.numbers l.invariant.2 (sym r.1 ∙ not-true _ c.if3.true)),
+      sym (parsed-other a.input.now l.i (omega arith) _ r.0 l.numbers l.invariant.2 (sym r.1 ∙ not_true _ c.if3.true)),
       λ e. absurd (false≢true e),
       l.invariant.1,
     )

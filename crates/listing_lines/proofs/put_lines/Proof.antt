@@ -6,7 +6,7 @@ use lib.ListN.{length, length-append}
 use Rattle.columns.specs.Columns.{ascii, column}
 use Rattle.lists.proofs.Lists.{sets_then}
 use Rattle.columns.proofs.Columns.{column-length}
-use Rattle.listing_lines.specs.Lines.{header, row_lines, lastLine, lines}
+use Rattle.listing_lines.specs.Lines.{header, row_lines, last_line, lines}
 use Rattle.listing_lines.proofs.Lines.{rows-length}
 use borrow.Author.Rules.{rules}
 use Rattle.listing_lines.proofs.put_lines.Statement.{statement}
@@ -52,7 +52,7 @@ same_length : tie.Need-same-length
 same_length c = search rules
 
 returns : tie.Need-returns
-unfolding lines lastLine
+unfolding lines last_line
 returns c =
     let a = c.before.before.before.before.before.before.before.before.before.before.before.before.before.before.before.before.before.before.before.before.before.before.before.before.before.args in
     let out = a.out.now in
@@ -62,7 +62,7 @@ returns c =
     let bytes = column 11 a.bytes in
     let two = sets_then c.before.before.before.before.before.before.before.before.before.before.before.before.before.before.before.before.put-rows.new.0 at (at + 5) (ascii "BYTES") bytes c.before.before.before.before.before.before.before.before.before.before.before.put-text2.ensures c.before.before.before.before.before.before.before.put.ensures refl in
     let three = sets_then c.before.before.before.before.before.before.before.before.before.before.before.before.before.before.before.before.put-rows.new.0 at (at + 16) (ascii "BYTES" ++ bytes) (ascii "\n") two c.before.before.put-text3.ensures (simp (length-append, column-length)) in
-    sets_then out 0 at (header ++ rows) (lastLine a.bytes) head three (omega (arith, length-append header rows, rows-length a.order 0 0 a.row.now))
+    sets_then out 0 at (header ++ rows) (last_line a.bytes) head three (omega (arith, length-append header rows, rows-length a.order 0 0 a.row.now))
 
 pub put-lines-spec : {M : Type 1} → statement M
 put-lines-spec =

@@ -5,7 +5,7 @@ use lib.ListN.{length}
 use lib.Seq.{length-sets}
 use borrow.Author.Rules.{rules}
 use Rattle.calls.proofs.Checks.{number_is, legal-at}
-use Rattle.calls.specs.Limits.{maxNumber}
+use Rattle.calls.specs.Limits.{max_number}
 use Rattle.listing_lines.proofs.Lines.{Listed, listed-none, listed_more, listed-end}
 use Rattle.listing_lines.proofs.put_rows.Statement.{statement}
 use Rattle.listing_lines.proofs.put_rows.Tie as tie
@@ -18,10 +18,10 @@ abbrev decreases-loop : tie.decreases-loop
 decreases-loop out₀ order row firsts total₀ i₀ i-end out total i = i-end - i
 
 -- the number at i is one of a row
-number : (c : tie.After-wide invariant-loop decreases-loop) → (1 ≤ c.wide.result) × (c.wide.result ≤ maxNumber)
+number : (c : tie.After-wide invariant-loop decreases-loop) → (1 ≤ c.wide.result) × (c.wide.result ≤ max_number)
 number c =
     let start = c.before.before.before.before.before.before.before in
-    number_is maxNumber c.wide.result (rw c.wide.ensures (legal-at maxNumber start.args.row.now c.before.before.before.loop.i start.requires.2 (omega arith)))
+    number_is max_number c.wide.result (rw c.wide.ensures (legal-at max_number start.args.row.now c.before.before.before.loop.i start.requires.2 (omega arith)))
 
 first-numbers-requires : tie.Need-first-numbers-requires invariant-loop decreases-loop
 first-numbers-requires c κs = c.before.before.requires.0

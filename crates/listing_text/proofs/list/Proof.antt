@@ -4,14 +4,14 @@ use native.Mathlib.Omega.{arith}
 use lib.ListN.{length}
 use Rattle.calls.specs.declared.Refusal.TheVariants.{NoRoom}
 use Rattle.calls.specs.declared.CountAnswer.TheVariants.{Count, Refused}
-use Rattle.calls.specs.Limits.{maxBytes}
-use Rattle.headers.specs.Headers.{encodingOutcome}
+use Rattle.calls.specs.Limits.{max_bytes}
+use Rattle.headers.specs.Headers.{encoding_outcome}
 use Rattle.calls.proofs.Checks.{order_is}
 use Rattle.calls.proofs.Writing.{Writable}
 use Rattle.encoder.proofs.Writing.{writing, write-is}
 use Rattle.listing_lines.specs.Lines.{lines}
 use Rattle.listing_lines.proofs.Lines.{lines-length}
-use Rattle.listing_text.specs.Listing.{listingOf, printed}
+use Rattle.listing_text.specs.Listing.{listing_of, printed}
 use Rattle.listing_text.proofs.Printing.{put-room, put-done, puts-same}
 use Rattle.listing_text.proofs.Answering.{list_written, list-refused}
 use borrow.Author.Rules.{rules}
@@ -21,11 +21,11 @@ use Rattle.listing_text.proofs.list.Tie as tie
 -- the row was written, and so many bytes are printed
 written : (c : tie.After-known-told2)
     → let a = c.before.before.before.before.before.before.before.before.args in
-    Writable (writing a.order a.row.now) maxBytes × (lines a.order a.row.now c.before.written2.given.0.0 ≡ printed (listingOf a.order a.row.now))
+    Writable (writing a.order a.row.now) max_bytes × (lines a.order a.row.now c.before.written2.given.0.0 ≡ printed (listing_of a.order a.row.now))
 written c =
     let a = c.before.before.before.before.before.before.before.before.args in
-    let e = ap encodingOutcome (sym c.before.written2.given.1) ∙ c.before.before.before.before.write.ensures.0 in
-    ((write-is a.order a.row.now maxBytes _ _ (sym e)).0, list_written a.order a.row.now _ _ e)
+    let e = ap encoding_outcome (sym c.before.written2.given.1) ∙ c.before.before.before.before.write.ensures.0 in
+    ((write-is a.order a.row.now max_bytes _ _ (sym e)).0, list_written a.order a.row.now _ _ e)
 
 slice-aggregate-write : tie.Need-slice-aggregate-write
 slice-aggregate-write c = search rules
@@ -65,7 +65,7 @@ same_length c = search rules
 returns-2 : tie.Need-returns-2
 returns-2 c =
     let a = c.before.before.before.before.before.before.before.before.before.before.before.before.args in
-    let e = ap encodingOutcome (sym c.before.before.before.before.before.written.given.1) ∙ c.before.before.before.before.before.before.before.before.write.ensures.0 in
+    let e = ap encoding_outcome (sym c.before.before.before.before.before.written.given.1) ∙ c.before.before.before.before.before.before.before.before.write.ensures.0 in
     puts-same _ _ a.out.now c.before.before.refuse.result _ (list-refused a.order a.row.now _ e) c.before.before.refuse.ensures
 
 same-length-2 : tie.Need-same-length-2

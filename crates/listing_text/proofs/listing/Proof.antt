@@ -2,9 +2,9 @@ use mathlib.Core.Path.{◌≡◌, sym, ◌∙◌}
 use Prim.Native.Nat.{◌-◌, ◌/◌, ◌≤◌}
 use native.Mathlib.Omega.{arith}
 use lib.ListN.{length, get_or, take, drop}
-use borrow.Author.Tests.{not-true, not-false}
-use Rattle.calls.specs.Limits.{maxNumber}
-use Rattle.listing_text.specs.Listing.{listingOf, printed, text}
+use borrow.Author.Tests.{not_true, not-false}
+use Rattle.calls.specs.Limits.{max_number}
+use Rattle.listing_text.specs.Listing.{listing_of, printed, text}
 use Rattle.listing_text.proofs.Printing.{puts-same}
 use Rattle.listing_text.proofs.Answering.{text-long, text-other, text-row}
 use borrow.Author.Rules.{rules}
@@ -15,7 +15,7 @@ use Rattle.listing_text.proofs.listing.Tie as tie
 read : (c : tie.Else2)
     → let s = c.before.before.before.before.before.before.args.input.now in
     let numbers = c.before.parse.new.1.0 in
-    (1 ≤ length s / 11) × (get_or numbers 0 0 ≤ maxNumber) × (printed (listingOf (get_or numbers 0 0) (take (length s / 11 - 1) (drop 1 numbers))) ≡ text s)
+    (1 ≤ length s / 11) × (get_or numbers 0 0 ≤ max_number) × (printed (listing_of (get_or numbers 0 0) (take (length s / 11 - 1) (drop 1 numbers))) ≡ text s)
 read c =
     let p = c.before.parse in
     let good = not-false _ c.if2.false in
@@ -45,7 +45,7 @@ returns-2 : tie.Need-returns-2
 returns-2 c =
     let a = c.before.before.before.before.before.before.before.before.before.before.args in
     puts-same _ _ a.out.now c.before.before.refuse2.result _
-    (text-other a.input.now c.before.before.before.before.before.before.before.if1.false (sym c.before.before.before.before.before.parse.ensures.0 ∙ not-true _ c.before.before.before.before.if2.true)) c.before.before.refuse2.ensures
+    (text-other a.input.now c.before.before.before.before.before.before.before.if1.false (sym c.before.before.before.before.before.parse.ensures.0 ∙ not_true _ c.before.before.before.before.if2.true)) c.before.before.refuse2.ensures
 
 array-read-order : tie.Need-array-read-order
 array-read-order c = search rules

@@ -5,7 +5,7 @@ use native.Mathlib.Omega.{arith}
 use lib.ListN.{take}
 use lib.Count.{ones-le}
 use borrow.Author.Rules.{rules}
-use Rattle.bits.specs.Bits.{wordBits, unpack, count}
+use Rattle.bits.specs.Bits.{word_bits, unpack, count}
 use Rattle.bits.proofs.Count.{byte-bits, count-bytes}
 use Rattle.rank_select.proofs.ones_of_bytes.Statement.{statement}
 use Rattle.rank_select.proofs.ones_of_bytes.Tie as tie
@@ -43,7 +43,7 @@ loop-again c =
     let a = c.before.before.before.before.before.args in
     let r = c.wide in
     let few = ones-le 8 c.wide.result c.wide.ensures.1 in
-    (omega arith, omega arith, omega arith, omega (arith, l.invariant.3, count-bytes 1 a.s.now l.i r.result r.ensures.1 (ap (wordBits 8) r.ensures.0 ∙ byte-bits a.s.now l.i (omega arith))))
+    (omega arith, omega arith, omega arith, omega (arith, l.invariant.3, count-bytes 1 a.s.now l.i r.result r.ensures.1 (ap (word_bits 8) r.ensures.0 ∙ byte-bits a.s.now l.i (omega arith))))
 
 returns : tie.Need-returns invariant-loop decreases-loop
 returns c =

@@ -4,7 +4,7 @@ use Prim.Native.Nat.{◌+◌, ◌-◌, ◌≤◌}
 use native.Mathlib.Omega.{arith}
 use lib.ListN.{take, drop}
 use borrow.Author.Rules.{rules}
-use Rattle.bits.specs.Bits.{unpack, count, selectBit}
+use Rattle.bits.specs.Bits.{unpack, count, select_bit}
 use Rattle.bits.proofs.Bytes.{unpack-length}
 use Rattle.bits.proofs.Select.{step-bits, step-skipped}
 use Rattle.rank_select.proofs.skip.Statement.{statement}
@@ -14,7 +14,7 @@ use Rattle.rank_select.proofs.skip.Tie as tie
 abbrev invariant-loop : tie.invariant-loop
 invariant-loop s from k v step at₀ left₀ at left =
     let b = take k (drop from (unpack s)) in
-    (at ≤ k) × (at₀ + selectBit v left₀ (drop at₀ b) ≡ at + selectBit v left (drop at b))
+    (at ≤ k) × (at₀ + select_bit v left₀ (drop at₀ b) ≡ at + select_bit v left (drop at b))
 
 abbrev decreases-loop : tie.decreases-loop
 decreases-loop s from k v step at₀ left₀ at left = k - at

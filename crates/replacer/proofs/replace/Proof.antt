@@ -49,7 +49,7 @@ splice-requires c κs =
     let x = (planned m).1 in
     let r = room m in
     let end = c.before.most.ensures in
-    (omega (arith, end), omega (arith, end, r.fits, r.used-fits), omega (arith, end, r.most, r.used-most), r.some, r.in_use, x.word.3, omega (arith, x.word.4), x.word.1)
+    (omega (arith, end), omega (arith, end, r.fits, r.used_fits), omega (arith, end, r.most, r.used_most), r.some, r.in_use, x.word.3, omega (arith, x.word.4), x.word.1)
 
 same_length : tie.Need-same-length
 same_length c = search rules

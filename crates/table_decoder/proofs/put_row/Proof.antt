@@ -5,19 +5,19 @@ use native.Mathlib.Omega.{arith}
 use lib.ListN.{length, take, drop}
 use lib.Seq.{length-sets}
 use borrow.Author.Rules.{rules}
-use Rattle.table_decoder.specs.Reading.{rowBytes}
+use Rattle.table_decoder.specs.Reading.{row_bytes}
 use Rattle.table_decoder.proofs.Answering.{bytes-more}
 use Rattle.table_decoder.proofs.put_row.Statement.{statement}
 use Rattle.table_decoder.proofs.put_row.Tie as tie
 
 abbrev invariant-loop : tie.invariant-loop
-invariant-loop out₀ row n i₀ out i = (i ≤ n) × (length out ≡ length out₀) × (out ≡ rowBytes (take i row) ++ drop (4 * i) out₀)
+invariant-loop out₀ row n i₀ out i = (i ≤ n) × (length out ≡ length out₀) × (out ≡ row_bytes (take i row) ++ drop (4 * i) out₀)
 
 abbrev decreases-loop : tie.decreases-loop
 decreases-loop out₀ row n i₀ out i = n - i
 
 loop-holds : tie.Need-loop-init invariant-loop decreases-loop
-loop-holds c = (omega arith, refl, unfold rowBytes flatten in refl)
+loop-holds c = (omega arith, refl, unfold row_bytes flatten in refl)
 
 mul-put-number : tie.Need-overflow-mul-put-number invariant-loop decreases-loop
 mul-put-number c = search rules

@@ -1,4 +1,4 @@
-use Rattle.calls.specs.Limits.{maxNumber}
+use Rattle.calls.specs.Limits.{max_number}
 use Rattle.calls.specs.Reading.{decode}
 use Rattle.reading.specs.Reading.{fibonacci}
 use Rattle.calls.proofs.Decoding.{holds_row}
@@ -17,7 +17,7 @@ slice-aggregate-deliver c = search rules
 deliver-requires : tie.Need-deliver-requires
 deliver-requires c κs =
     let f = c.before.before.scan-into in
-    holds_row (decode (fibonacci 3) maxNumber c.before.before.before.before.before.before.args.s.now) f.new.1.1.0 f.result f.ensures.0
+    holds_row (decode (fibonacci 3) max_number c.before.before.before.before.before.before.args.s.now) f.new.1.1.0 f.result f.ensures.0
 
 same_length : tie.Need-same-length
 same_length c = search rules

@@ -4,7 +4,7 @@ use Prim.Native.Nat.{ℕ, ◌-◌, ◌≤◌, ◌<◌}
 use native.Mathlib.Omega.{arith}
 use lib.ListN.{length, get_or, take}
 use borrow.Author.Rules.{rules}
-use borrow.Author.Tests.{not-true, not-false}
+use borrow.Author.Tests.{not_true, not-false}
 use Rattle.calls.specs.Calls.{accepted, refused}
 use Rattle.table_scan.proofs.Walking.{Walked, Step, walked_start, walked-state, walked-open, walked_many, walked-fault, walked-number, walked-past, walked-room, walked-shut, walked-padding, walked-rest}
 use Rattle.table_scan.proofs.walk.Statement.{statement}
@@ -29,7 +29,7 @@ step c =
       byte = byte c.before.before.before;
       row_is = c.before.before.look_up.ensures.0;
       few = c.before.before.look_up.ensures.1;
-      value-is = c.moved.ensures.0;
+      value_is = c.moved.ensures.0;
     }
 
 loop-holds : tie.Need-loop-init invariant-loop decreases-loop
@@ -47,7 +47,7 @@ add-look-up c = omega (arith, byte c, walked-state c.before.before.loop.invarian
 look-up-requires : tie.Need-look-up-requires invariant-loop decreases-loop
 look-up-requires c κs =
     let t = c.before.before.before.before.requires.0 in
-    (t.heads-are, t.tails-are, omega (arith, byte c, walked-state c.before.before.loop.invariant.2))
+    (t.heads_are, t.tails_are, omega (arith, byte c, walked-state c.before.before.loop.invariant.2))
 
 add-end : tie.Need-overflow-add-end invariant-loop decreases-loop
 add-end c = omega (arith, c.before.before.before.before.loop.invariant.2.clamped, c.before.look_up.ensures.1.len)
@@ -55,7 +55,7 @@ add-end c = omega (arith, c.before.before.before.before.loop.invariant.2.clamped
 moved-requires : tie.Need-moved-requires invariant-loop decreases-loop
 moved-requires c κs =
     let few = c.before.look_up.ensures.1 in
-    (c.before.before.before.before.before.before.requires.0.positions-are, omega (arith, c.before.before.before.before.loop.invariant.2.clamped), few.coef0, omega (arith, few.coef1), few.coef2)
+    (c.before.before.before.before.before.before.requires.0.positions_are, omega (arith, c.before.before.before.before.loop.invariant.2.clamped), few.coef0, omega (arith, few.coef1), few.coef2)
 
 add-sum : tie.Need-overflow-add-sum invariant-loop decreases-loop
 add-sum c =
@@ -63,7 +63,7 @@ add-sum c =
     omega (arith, l.invariant.2.small, c.moved.ensures.1, c.before.before.before.before.before.before.before.requires.1)
 
 mul-state : tie.Need-overflow-mul-state invariant-loop decreases-loop
-mul-state c = omega (arith, c.before.before.before.look_up.ensures.1.rest-ones)
+mul-state c = omega (arith, c.before.before.before.look_up.ensures.1.rest_ones)
 
 clamp-length-requires : tie.Need-clamp-length-requires invariant-loop decreases-loop
 clamp-length-requires c κs = search rules
@@ -79,7 +79,7 @@ number-requires c κs =
     let m = c.before.before.before.before in
     let l = m.before.before.before.before.before.loop in
     let z = m.before.before.before.before.before.before.before in
-    (z.requires.0.firsts-are, omega (arith, l.invariant.2.small, m.moved.ensures.1, z.requires.1))
+    (z.requires.0.firsts_are, omega (arith, l.invariant.2.small, m.moved.ensures.1, z.requires.1))
 
 passing-requires : tie.Need-passing-requires invariant-loop decreases-loop
 passing-requires c κs = search rules
@@ -156,7 +156,7 @@ returns-4 : tie.Need-returns-4 invariant-loop decreases-loop
 returns-4 c =
     let o = c.before.before in
     let l = o.before.loop in
-    rw (walked-rest l.invariant.2 o.loop-test.false (sym c.before.is-padding.ensures ∙ not-true _ c.if5.true)) ((refl, tt), l.invariant.2.room)
+    rw (walked-rest l.invariant.2 o.loop-test.false (sym c.before.is-padding.ensures ∙ not_true _ c.if5.true)) ((refl, tt), l.invariant.2.room)
 
 returns-5 : tie.Need-returns-5 invariant-loop decreases-loop
 returns-5 c =

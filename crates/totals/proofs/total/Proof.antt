@@ -5,14 +5,14 @@ use Prim.Native.Nat.{ℕ}
 use native.Mathlib.Omega.{arith}
 use lib.ListN.{length}
 use borrow.Author.Rules.{rules}
-use borrow.Author.Tests.{lt-ltb, le-ltb, not-true, not-false}
+use borrow.Author.Tests.{lt-ltb, le-ltb, not_true, not-false}
 use Rattle.calls.specs.Calls.{accepted}
-use Rattle.calls.specs.Limits.{is_order, maxNumber}
+use Rattle.calls.specs.Limits.{is_order, max_number}
 use Rattle.calls.specs.Reading.{decode}
 use Rattle.calls.proofs.Checks.{order_is, told-accepted, told-refused}
 use Rattle.reading.specs.Reading.{fibonacci}
 use Rattle.decoder.specs.declared.Summary.{Summary}
-use Rattle.decoder.specs.Leaves.{summary, spanOutcome}
+use Rattle.decoder.specs.Leaves.{summary, span_outcome}
 use Rattle.totals.specs.Totals.{total}
 use Rattle.totals.proofs.total.Statement.{statement}
 use Rattle.totals.proofs.total.Tie as tie
@@ -24,17 +24,17 @@ ordered c = sym c.before.is-order.ensures ∙ not-false _ c.if1.false
 -- the row of which it was told
 row_of : (c : tie.After-told)
     → let a = c.before.before.before.before.before.before.args in
-    (row : List ℕ) × (decode (fibonacci a.order) maxNumber a.s.now ≡ accepted row) × (c.told.given.0.0 ≡ summary a.order a.a a.b row)
+    (row : List ℕ) × (decode (fibonacci a.order) max_number a.s.now ≡ accepted row) × (c.told.given.0.0 ≡ summary a.order a.a a.b row)
 row_of c =
     let a = c.before.before.before.before.before.before.args in
-    told-accepted _ (summary a.order a.a a.b) _ (ap spanOutcome (sym c.told.given.1) ∙ c.before.before.sum-span.ensures)
+    told-accepted _ (summary a.order a.a a.b) _ (ap span_outcome (sym c.told.given.1) ∙ c.before.before.sum-span.ensures)
 
 is-order-requires : tie.Need-is-order-requires
 is-order-requires c κs = search rules
 
 returns : tie.Need-returns
 unfolding total
-returns c = rw (sym c.before.is-order.ensures ∙ not-true _ c.if1.true) refl
+returns c = rw (sym c.before.is-order.ensures ∙ not_true _ c.if1.true) refl
 
 sum-span-requires : tie.Need-sum-span-requires
 sum-span-requires c κs = (order_is _ (ordered c), omega arith)
@@ -76,7 +76,7 @@ unfolding total
 returns-5 c =
     let t = c.before in
     let a = t.before.before.before.before.before.before.args in
-    let why = told-refused (decode (fibonacci a.order) maxNumber a.s.now) (summary a.order a.a a.b) t.told2.given.0.0 (ap spanOutcome (sym t.told2.given.1) ∙ t.before.before.sum-span.ensures) in
+    let why = told-refused (decode (fibonacci a.order) max_number a.s.now) (summary a.order a.a a.b) t.told2.given.0.0 (ap span_outcome (sym t.told2.given.1) ∙ t.before.before.sum-span.ensures) in
     rw (ordered t.before.before.before, why) refl
 
 pub total-spec : {M : Type 1} → statement M

@@ -5,15 +5,15 @@ use Prim.Native.Nat.{ℕ, suc, ◌+◌, ◌-◌, ◌*◌, ◌≤◌, ◌<◌}
 use native.Mathlib.Omega.{arith}
 use lib.ListN.{length, take, drop, length-append, length-take, length-drop}
 use lib.Seq.{length-take-le}
-use borrow.Author.Tests.{not-true, not-false}
+use borrow.Author.Tests.{not_true, not-false}
 use borrow.Rule.Slice.PartMut.{same_len_mid}
 use borrow.Fn.Kinds.{In}
 use borrow.Fn.PlainCycle.{Measures, is, falls, and}
 use Rattle.lists.specs.Lists.{filter}
 use Rattle.lists.proofs.Lists.{tail-part}
-use Rattle.wavelet.specs.Leaves.{nodeTest}
+use Rattle.wavelet.specs.Leaves.{node_test}
 use Rattle.wavelet.proofs.Walking.{is-node, is-low, less}
-use Rattle.wavelet_bitmaps.specs.Leaves.{bitAfter, room}
+use Rattle.wavelet_bitmaps.specs.Leaves.{bit_after, room}
 use Rattle.wavelet_bitmaps.proofs.Subtrees.{node-depth, room_split, room-sides, side-depth, subtree-none, subtree-leaf}
 use Rattle.wavelet_bitmaps.proofs.Subtrees.{words-cursor, partitioned-few, partitioned-zeros, partitioned-ones, words-zero, words-one, subtree-node}
 use Rattle.wavelet_bitmaps.proofs.write_subtree.Reads as write-subtree
@@ -73,7 +73,7 @@ zero_of t c = c.before.before.before.before.before.before.before.before.before.b
 
 -- ## At a node
 
-test_of : (t : ℕ) (c : Node t) → let a = (start_of t c).args in nodeTest a.order a.limit a.v ≡ true
+test_of : (t : ℕ) (c : Node t) → let a = (start_of t c).args in node_test a.order a.limit a.v ≡ true
 test_of t c = sym c.before.is-node.ensures ∙ not-false _ c.if2.false
 
 within : (t : ℕ) (c : Node t) → let a = (start_of t c).args in (a.v.ones < a.order) × (a.v.next ≤ a.limit)
@@ -111,14 +111,14 @@ sides t c zero_is one-is =
 -- the words on each side
 zeros : (t : ℕ) (c : Partitioned t)
     → let a = (start_of t (node_of t c)).args in
-    take c.partition.result c.partition.new.0 ≡ filter (λ x. not (bitAfter a.v.depth x)) a.words.now
+    take c.partition.result c.partition.new.0 ≡ filter (λ x. not (bit_after a.v.depth x)) a.words.now
 zeros t c =
     let a = (start_of t (node_of t c)).args in
     ap (take c.partition.result) c.partition.ensures.1 ∙ partitioned-zeros a.v.depth a.words.now c.partition.result c.partition.ensures.0
 
 ones-of : (t : ℕ) (c : Partitioned t)
     → let a = (start_of t (node_of t c)).args in
-    drop c.partition.result c.partition.new.0 ≡ filter (bitAfter a.v.depth) a.words.now
+    drop c.partition.result c.partition.new.0 ≡ filter (bit_after a.v.depth) a.words.now
 ones-of t c =
     let a = (start_of t (node_of t c)).args in
     ap (drop c.partition.result) c.partition.ensures.1 ∙ partitioned-ones a.v.depth a.words.now c.partition.result c.partition.ensures.0
@@ -160,7 +160,7 @@ write-subtree-is-node-requires t c κs = tt
 write-subtree-returns-2 : (t : ℕ) → write-subtree-lts.Need-returns-2 (known t) (write-subtree-at t) write-subtree.Post
 write-subtree-returns-2 t c =
     let a = c.before.before.before.before.before.before.args in
-    let test = sym c.before.is-node.ensures ∙ not-true _ c.if2.true in
+    let test = sym c.before.is-node.ensures ∙ not_true _ c.if2.true in
     (omega arith, subtree-leaf _ _ a.v a.words.now a.at a.out.now test)
 
 write-subtree-partition-requires : (t : ℕ) → write-subtree-lts.Need-partition-requires (known t) (write-subtree-at t) write-subtree.Post

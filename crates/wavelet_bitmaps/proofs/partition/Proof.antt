@@ -4,14 +4,14 @@ use native.Mathlib.Omega.{arith}
 use lib.ListN.{length, drop, length-set, length-take, length-drop}
 use borrow.Rule.Slice.PartMut.{same_len_mid}
 use Rattle.bits.specs.Bits.{unpack}
-use Rattle.wavelet_bitmaps.specs.Leaves.{bitAfter}
+use Rattle.wavelet_bitmaps.specs.Leaves.{bit_after}
 use Rattle.wavelet_bitmaps.proofs.Partitioning.{Partition, bit-few, partition-none, partition-next, partitioned-count, partitioned-words, partitioned-bits}
 use Rattle.wavelet_bitmaps.proofs.partition.Statement.{statement}
 use Rattle.wavelet_bitmaps.proofs.partition.Tie as tie
 
 abbrev invariant-loop : tie.invariant-loop
 invariant-loop words₀ spare₀ depth out₀ at ones₀ i₀ i-end words spare out ones i =
-    Partition (bitAfter depth) words₀ words spare (i - ones) ones i at (unpack out₀) (unpack out)
+    Partition (bit_after depth) words₀ words spare (i - ones) ones i at (unpack out₀) (unpack out)
     × (i-end ≡ length words₀) × (length spare ≡ length spare₀) × (length out ≡ length out₀)
 
 abbrev decreases-loop : tie.decreases-loop

@@ -6,11 +6,11 @@ use borrow.Author.Rules.{rules}
 use Rattle.bits.specs.Bits.{unpack}
 use Rattle.calls.proofs.Checks.{positive, each-accepted}
 use Rattle.calls.specs.declared.Refusal.TheVariants.{OutsideAlphabet}
-use Rattle.calls.specs.Calls.{accepted, countOutcome}
+use Rattle.calls.specs.Calls.{accepted, count_outcome}
 use Rattle.calls.specs.Limits.{Legal}
 use Rattle.codes.specs.Rows.{Positive}
 use Rattle.wavelet.specs.Bitmaps.{bitmaps}
-use Rattle.wavelet.specs.Leaves.{Passed, maxIndexBytes}
+use Rattle.wavelet.specs.Leaves.{Passed, max_index_bytes}
 use Rattle.wavelet.proofs.Answering.{tree-passed, legal-order, legal-alphabet}
 use Rattle.wavelet_bitmaps.specs.Leaves.{AllAligned}
 use Rattle.wavelet_build.proofs.Building.{build-refused, build-number, build-room, build-done}
@@ -32,14 +32,14 @@ numbers-at c = c.before.before.before.before
 
 -- the order, the alphabet and the length are legal
 passed : (c : tie.After-enum-told) → let a = (start_of c).args in Passed a.order a.alphabet (length a.row.now)
-passed c = tree-passed _ _ _ (sym (ap countOutcome c.enum_told.given.1) ∙ c.before.before.check.ensures)
+passed c = tree-passed _ _ _ (sym (ap count_outcome c.enum_told.given.1) ∙ c.before.before.check.ensures)
 
 -- each number is legal
 numbers : (c : tie.After-enum-told2) → let a = (start_of (tree-at c)).args in Legal a.alphabet a.row.now
 numbers c =
     let a = (start_of (tree-at c)).args in
     (each-accepted OutsideAlphabet a.alphabet 0 a.row.now (accepted (length a.row.now)) _ (
-    sym (fill-at c).fill.ensures.0 ∙ ap countOutcome c.enum-told2.given.1)).0
+    sym (fill-at c).fill.ensures.0 ∙ ap count_outcome c.enum-told2.given.1)).0
 
 -- so the words have their codewords
 aligned : (c : tie.After-enum-told2)
@@ -47,13 +47,13 @@ aligned : (c : tie.After-enum-told2)
     Positive a.row.now × AllAligned a.order a.row.now (take (length a.row.now) (fill-at c).fill.new.1.1.1.1.0)
 aligned c =
     let a = (start_of (tree-at c)).args in
-    (positive a.alphabet a.row.now (numbers c), (fill-at c).fill.ensures.1 _ (ap countOutcome c.enum-told2.given.1))
+    (positive a.alphabet a.row.now (numbers c), (fill-at c).fill.ensures.1 _ (ap count_outcome c.enum-told2.given.1))
 
 -- the bitmaps are written
 built : (c : tie.After-write-bitmaps)
     → let a = (start_of (tree-at (numbers-at c))).args in
     (c.write-bitmaps.result ≡ length (bitmaps a.order a.alphabet a.row.now))
-    × (unpack c.write-bitmaps.new.1.1.1.1.0 ≡ sets (unpack (replicate maxIndexBytes 0)) 0 (bitmaps a.order a.alphabet a.row.now))
+    × (unpack c.write-bitmaps.new.1.1.1.1.0 ≡ sets (unpack (replicate max_index_bytes 0)) 0 (bitmaps a.order a.alphabet a.row.now))
 built c =
     let e = numbers-at c in
     let a = (start_of (tree-at e)).args in
@@ -70,7 +70,7 @@ returns c =
     let x = c.before.before.before in
     let a = x.before.before.before.args in
     build-refused a.order a.alphabet a.row.now a.out.now c.before.checked.given.0.0
-    (sym (ap countOutcome c.before.checked.given.1) ∙ x.check.ensures)
+    (sym (ap count_outcome c.before.checked.given.1) ∙ x.check.ensures)
 
 enum_told : tie.Need-enum-told
 enum_told c = search rules
@@ -96,7 +96,7 @@ returns-2 c =
     let t = f.before.before.before.before in
     let a = (start_of t).args in
     build-number a.order a.alphabet a.row.now a.out.now (passed t) _
-    (sym (ap countOutcome c.before.filled.given.1) ∙ f.fill.ensures.0)
+    (sym (ap count_outcome c.before.filled.given.1) ∙ f.fill.ensures.0)
 
 enum-told-2 : tie.Need-enum-told-2
 enum-told-2 c = search rules
@@ -147,7 +147,7 @@ returns-4 c =
     let a = (start_of (tree-at e)).args in
     let b = built x in
     build-done a.order a.alphabet a.row.now a.out.now (passed (tree-at e)) (numbers e) x.write-bitmaps.result b.0
-    maxIndexBytes x.write-bitmaps.new.1.1.1.1.0 _ x.write-bitmaps.ensures.0 b.1 (omega arith)
+    max_index_bytes x.write-bitmaps.new.1.1.1.1.0 _ x.write-bitmaps.ensures.0 b.1 (omega arith)
     c.before.before.copy-bytes.ensures (λ i. (c.slice-known2.given i).fits)
 
 pub build-spec : {M : Type 1} → statement M

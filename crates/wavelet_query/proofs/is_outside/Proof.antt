@@ -1,7 +1,7 @@
 use mathlib.Core.Path.{ap, ap₂, ◌∙◌}
 use mathlib.Core.Bool.{not}
 use borrow.Author.Rules.{rules}
-use Rattle.calls.specs.Limits.{isOutside}
+use Rattle.calls.specs.Limits.{is_outside}
 use Rattle.calls.proofs.Checks.{outside-is}
 use Rattle.wavelet_query.proofs.is_outside.Statement.{statement}
 use Rattle.wavelet_query.proofs.is_outside.Tie as tie
@@ -17,7 +17,7 @@ is-number-requires c κs = search rules
 
 returns : tie.Need-returns
 returns c =
-    ap not c.is-number.ensures ∙ outside-is _ _ ∙ ap₂ isOutside c.before.before.wide.ensures c.before.wide2.ensures
+    ap not c.is-number.ensures ∙ outside-is _ _ ∙ ap₂ is_outside c.before.before.wide.ensures c.before.wide2.ensures
 
 pub is-outside-spec : {M : Type 1} → statement M
 is-outside-spec = tie.close (tie.spec wide-requires wide-requires-2 is-number-requires returns)

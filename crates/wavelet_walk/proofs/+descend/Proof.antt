@@ -3,14 +3,14 @@ use mathlib.Core.Bool.{true}
 use Prim.Native.Nat.{ℕ, suc, ◌+◌, ◌-◌, ◌*◌, ◌<◌, ◌≤◌}
 use native.Mathlib.Omega.{arith}
 use lib.ListN.{length}
-use borrow.Author.Tests.{not-true, not-false}
+use borrow.Author.Tests.{not_true, not-false}
 use borrow.Fn.Kinds.{In}
 use borrow.Fn.PlainCycle.{Measures, is, falls, and}
 use Rattle.bits.specs.Bits.{unpack}
 use Rattle.bits.proofs.Bytes.{unpack-length}
 use Rattle.fibonacci.specs.Code.{first}
-use Rattle.wavelet.specs.Questions.{maxAlphabet}
-use Rattle.wavelet.specs.Leaves.{nodeTest}
+use Rattle.wavelet.specs.Questions.{max_alphabet}
+use Rattle.wavelet.specs.Leaves.{node_test}
 use Rattle.wavelet.proofs.Cursors.{shallow}
 use Rattle.wavelet.proofs.Walking.{is-node, is-low, side-cursor, less}
 use Rattle.wavelet_walk.proofs.Questions.{view-within, view-side}
@@ -92,7 +92,7 @@ abbrev started : (t : ℕ) → Below t → Started t
 started t c = c.before.before.before.before
 
 -- what is known at a node
-node-is : (t : ℕ) (c : Node t) → let a = (start t c).args in nodeTest a.order a.limit a.v ≡ true
+node-is : (t : ℕ) (c : Node t) → let a = (start t c).args in node_test a.order a.limit a.v ≡ true
 node-is t c = sym c.before.is-node.ensures ∙ not-false _ c.if1.false
 
 small : (t : ℕ) (c : Node t) → let a = (start t c).args in (a.v.ones < a.order) × (a.v.next ≤ a.limit)
@@ -102,7 +102,7 @@ deep : (t : ℕ) (c : Node t) → (start t c).args.v.depth < 32
 deep t c =
     let z = start t c in
     let p = z.pre.1.0 in
-    let l : first z.args.order (z.args.v.depth + 1) ≤ maxAlphabet = omega (arith, is-low _ _ z.args.v p.2, (small t c).1, p.1) in
+    let l : first z.args.order (z.args.v.depth + 1) ≤ max_alphabet = omega (arith, is-low _ _ z.args.v p.2, (small t c).1, p.1) in
     omega (arith, shallow _ _ p.0.0 l)
 
 fits : (t : ℕ) (c : Bitmap t) → let a = (start t c.before).args in a.at + a.k ≤ 8 * length a.b.now
@@ -118,7 +118,7 @@ descend-returns : (t : ℕ) → lts.Need-returns (known t) (descend-at t) descen
 descend-returns t c =
     let z = c.before.before.before.before in
     let p = z.requires.1 in
-    find-leaf _ _ z.args.v _ _ _ z.args.question z.args.x z.args.i p.0.4 p.1 (sym c.before.before.is-node.ensures ∙ not-true _ c.before.if1.true)
+    find-leaf _ _ z.args.v _ _ _ z.args.question z.args.x z.args.i p.0.4 p.1 (sym c.before.before.is-node.ensures ∙ not_true _ c.before.if1.true)
     _ c.at_leaf.ensures
 
 descend-mul-total : (t : ℕ) → lts.Need-overflow-mul-total (known t) (descend-at t) descend.Post

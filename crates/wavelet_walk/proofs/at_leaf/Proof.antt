@@ -1,6 +1,6 @@
 use mathlib.Core.Path.{sym, ap, ◌∙◌}
 use borrow.Author.Rules.{rules}
-use Rattle.wavelet_walk.specs.Leaves.{atLeaf}
+use Rattle.wavelet_walk.specs.Leaves.{at_leaf}
 use Rattle.wavelet_walk.specs.declared.Question.{Question}
 use Rattle.wavelet_walk.proofs.at_leaf.Statement.{statement}
 use Rattle.wavelet_walk.proofs.at_leaf.Tie as tie
@@ -26,7 +26,7 @@ returns-2 c = search rules
 returns-3 : tie.Need-returns-3
 returns-3 c =
     let a = c.before.before.before.args in
-    c.least.ensures ∙ sym (ap (λ (q : Question). atLeaf q a.n a.k a.i) c.before.enum-told3.given.1)
+    c.least.ensures ∙ sym (ap (λ (q : Question). at_leaf q a.n a.k a.i) c.before.enum-told3.given.1)
 
 pub at-leaf-spec : {M : Type 1} → statement M
 at-leaf-spec =

@@ -1,5 +1,5 @@
 use mathlib.Core.Path.{ap, ◌∙◌}
-use Rattle.bits.specs.Bits.{selectBit}
+use Rattle.bits.specs.Bits.{select_bit}
 use Rattle.wavelet.proofs.Ends.{slice-bits}
 use borrow.Author.Rules.{rules}
 use Rattle.wavelet_walk.proofs.select_in.Statement.{statement}
@@ -26,7 +26,7 @@ select-bit-requires c κs = search rules
 returns : tie.Need-returns
 returns c =
     let a = c.before.before.before.args in
-    c.select-bit.ensures ∙ ap (selectBit a.v a.j) (slice-bits a.b.now a.at a.k)
+    c.select-bit.ensures ∙ ap (select_bit a.v a.j) (slice-bits a.b.now a.at a.k)
 
 pub select-in-spec : {M : Type 1} → statement M
 select-in-spec =

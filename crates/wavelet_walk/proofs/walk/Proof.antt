@@ -1,8 +1,8 @@
 use mathlib.Core.Path.{sym, ap, ◌∙◌}
 use native.Mathlib.Omega.{arith}
 use borrow.Author.Rules.{rules}
-use borrow.Author.Tests.{not-true, not-false}
-use Rattle.calls.specs.Calls.{countOutcome}
+use borrow.Author.Tests.{not_true, not-false}
+use Rattle.calls.specs.Calls.{count_outcome}
 use Rattle.wavelet.specs.Leaves.{Passed}
 use Rattle.wavelet.proofs.Answering.{tree-passed, tree-refused, legal-order, legal-alphabet, is-root, index-long, ask-not, target-aligned}
 use Rattle.wavelet_walk.proofs.Questions.{view-all}
@@ -15,7 +15,7 @@ abbrev start_of : tie.After-enum-told → tie.Start
 start_of c = c.before.before.before.before
 
 passed : (c : tie.After-enum-told) → let a = (start_of c).args in Passed a.order a.alphabet a.len
-passed c = tree-passed _ _ _ (sym (ap countOutcome c.enum_told.given.1) ∙ c.before.before.check.ensures)
+passed c = tree-passed _ _ _ (sym (ap count_outcome c.enum_told.given.1) ∙ c.before.before.check.ensures)
 
 abbrev few-at : tie.After-root → tie.Else1
 few-at c = c.before.before.before.before.before.before
@@ -30,7 +30,7 @@ returns : tie.Need-returns
 returns c next =
     let x = c.before.before.before in
     let a = x.before.before.args in
-    tree-refused a.order a.alphabet a.len (sym (ap countOutcome c.before.checked.given.1) ∙ x.check.ensures) _
+    tree-refused a.order a.alphabet a.len (sym (ap count_outcome c.before.checked.given.1) ∙ x.check.ensures) _
 
 enum_told : tie.Need-enum-told
 enum_told c = search rules
@@ -80,7 +80,7 @@ returns-3 c =
     let f = few-at r in
     let a = (start_of f.before).args in
     walk-not (passed f.before) a.b.now r.root.result r.root.ensures a.question _ a.i d.descend.result w.wide.ensures
-    d.before.before.least.ensures d.descend.ensures a.n (sym x.is-exact.ensures ∙ not-true _ c.if2.true)
+    d.before.before.least.ensures d.descend.ensures a.n (sym x.is-exact.ensures ∙ not_true _ c.if2.true)
 
 returns-4 : tie.Need-returns-4
 returns-4 c =

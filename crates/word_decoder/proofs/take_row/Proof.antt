@@ -8,11 +8,11 @@ use lib.ListN.{length, take, set, length-set}
 use lib.Seq.{take-suc-set}
 use lib.Count.{count_leading_zeros, leading_le}
 use borrow.Author.Rules.{rules}
-use borrow.Author.Tests.{not-true, not-false}
+use borrow.Author.Tests.{not_true, not-false}
 use Rattle.bits.specs.Bits.{unpack}
 use Rattle.bits.proofs.Bytes.{unpack-length}
 use Rattle.calls.proofs.Checks.{number_is}
-use Rattle.calls.specs.Limits.{is_number, maxCount}
+use Rattle.calls.specs.Limits.{is_number, max_count}
 use Rattle.word_decoder.specs.Leaves.{full}
 use Rattle.word_decoder.proofs.Taking.{Going, taken_none, stopped-window, going-filled, going-zero, going-within, going-large, going-short, going_more}
 use Rattle.word_decoder.proofs.Spans.{decoded-none}
@@ -21,7 +21,7 @@ use Rattle.word_decoder.proofs.take_row.Tie as tie
 
 abbrev invariant-loop : tie.invariant-loop
 invariant-loop firsts order s limit row₀ values most bit₀ count₀ left₀ starts₀ row bit count left starts =
-    Going order limit (unpack s) 0 (take count row) bit count left starts × (length row ≡ length row₀) × (count ≤ most) × (most ≡ min (length row₀) maxCount) × (1 ≤ starts)
+    Going order limit (unpack s) 0 (take count row) bit count left starts × (length row ≡ length row₀) × (count ≤ most) × (most ≡ min (length row₀) max_count) × (1 ≤ starts)
 
 abbrev decreases-loop : tie.decreases-loop
 decreases-loop firsts order s limit row₀ values most bit₀ count₀ left₀ starts₀ row bit count left starts = 8 * length s - bit
@@ -36,7 +36,7 @@ passed c = sym c.before.is-number.ensures ∙ not-false _ c.if2.false
 
 -- .. or has not
 failed : (c : tie.Then2 invariant-loop decreases-loop) → is_number c.before.before.before.before.before.before.before.before.before.before.before.before.before.args.limit c.before.before.number.result ≡ false
-failed c = sym c.before.is-number.ensures ∙ not-true _ c.if2.true
+failed c = sym c.before.is-number.ensures ∙ not_true _ c.if2.true
 
 -- a number more
 module _ (c : tie.Else2 invariant-loop decreases-loop) where
@@ -95,7 +95,7 @@ loop-holds c =
         taken = taken_none _ _ _ _ (omega arith);
         many = refl;
         window = e.window;
-        starts-are = e.starts-are;
+        starts_are = e.starts_are;
       },
       refl,
       omega arith,

@@ -5,7 +5,7 @@ use native.Mathlib.Omega.{arith}
 use borrow.Author.Rules.{rules}
 use Rattle.bits.specs.Bits.{unpack}
 use Rattle.bits.proofs.Bytes.{unpack-length}
-use Rattle.calls.specs.Limits.{maxCount}
+use Rattle.calls.specs.Limits.{max_count}
 use Rattle.word_decoder.specs.declared.Segment.{Segment}
 use Rattle.word_decoder.specs.Leaves.{full, DecodedPrefix, Spanned}
 use Rattle.word_decoder.proofs.Taking.{stopped-before}
@@ -18,7 +18,7 @@ invariant-loop firsts order s limit from to values bit₀ count₀ sum₀ all₀
     Spanned order limit from to (unpack s) (record { bit = bit; count = count; sum = sum; all = all; start = start })
 
 abbrev decreases-loop : tie.decreases-loop
-decreases-loop firsts order s limit from to values bit₀ count₀ sum₀ all₀ start₀ bit count sum all start = maxCount - count
+decreases-loop firsts order s limit from to values bit₀ count₀ sum₀ all₀ start₀ bit count sum all start = max_count - count
 
 -- a part more
 module _ (c : tie.After-count-in-span invariant-loop decreases-loop) where

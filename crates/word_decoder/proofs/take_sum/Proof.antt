@@ -6,13 +6,13 @@ use native.Mathlib.Omega.{arith}
 use lib.ListN.{length, length-append}
 use lib.Count.{count_leading_zeros, leading_le}
 use borrow.Author.Rules.{rules}
-use borrow.Author.Tests.{not-true, not-false}
+use borrow.Author.Tests.{not_true, not-false}
 use Rattle.lists.specs.Lists.{sum}
 use Rattle.lists.proofs.Sums.{sum-snoc}
 use Rattle.bits.specs.Bits.{unpack}
 use Rattle.bits.proofs.Bytes.{unpack-length}
 use Rattle.calls.proofs.Checks.{number_is}
-use Rattle.calls.specs.Limits.{is_number, maxNumber}
+use Rattle.calls.specs.Limits.{is_number, max_number}
 use Rattle.word_decoder.specs.Leaves.{full}
 use Rattle.word_decoder.proofs.Taking.{Going, taken_none, stopped-window, going-filled, going-zero, going-within, going-large, going-short, going_more}
 use Rattle.word_decoder.proofs.take_sum.Statement.{statement}
@@ -20,7 +20,7 @@ use Rattle.word_decoder.proofs.take_sum.Tie as tie
 
 abbrev invariant-loop : tie.invariant-loop
 invariant-loop values firsts order s limit from most bit₀ taken₀ total₀ left₀ starts₀ bit taken total left starts =
-    (row : List ℕ) × Going order limit (unpack s) from row bit taken left starts × (total ≡ sum row) × (total ≤ maxNumber * length row) × (taken ≤ most) × (1 ≤ starts)
+    (row : List ℕ) × Going order limit (unpack s) from row bit taken left starts × (total ≡ sum row) × (total ≤ max_number * length row) × (taken ≤ most) × (1 ≤ starts)
 
 abbrev decreases-loop : tie.decreases-loop
 decreases-loop values firsts order s limit from most bit₀ taken₀ total₀ left₀ starts₀ bit taken total left starts = 8 * length s - bit
@@ -35,7 +35,7 @@ passed c = sym c.before.is-number.ensures ∙ not-false _ c.if2.false
 
 -- .. or has not
 failed : (c : tie.Then2 invariant-loop decreases-loop) → is_number c.before.before.before.before.before.before.before.before.args.limit c.before.before.number.result ≡ false
-failed c = sym c.before.is-number.ensures ∙ not-true _ c.if2.true
+failed c = sym c.before.is-number.ensures ∙ not_true _ c.if2.true
 
 -- a number more
 module _ (c : tie.Else2 invariant-loop decreases-loop) where
@@ -67,7 +67,7 @@ module _ (c : tie.Else2 invariant-loop decreases-loop) where
   summed : at.loop.sum + n ≡ sum (at.loop.inv.0 ++ (n ∷ []))
   summed = omega (arith, sum-snoc at.loop.inv.0 n, at.loop.inv.2)
 
-  little : at.loop.sum + n ≤ maxNumber * length (at.loop.inv.0 ++ (n ∷ []))
+  little : at.loop.sum + n ≤ max_number * length (at.loop.inv.0 ++ (n ∷ []))
   little = omega (arith, length-append at.loop.inv.0 (n ∷ []), at.loop.inv.3, number_is _ _ (passed c), start.pre.3)
 
   few : at.loop.taken + 1 ≤ start.args.most
@@ -97,7 +97,7 @@ loop-holds c =
         taken = taken_none _ _ _ _ (omega (arith, unpack-length z.args.s.now, z.requires.5));
         many = refl;
         window = e.window;
-        starts-are = e.starts-are;
+        starts_are = e.starts_are;
       },
       refl,
       omega arith,

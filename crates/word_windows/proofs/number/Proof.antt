@@ -5,7 +5,7 @@ use native.Mathlib.Decide.{dec_le}
 use borrow.Author.Rules.{rules}
 use Rattle.fibonacci.specs.Code.{first}
 use Rattle.calls.proofs.Checks.{above-number}
-use Rattle.calls.specs.Limits.{is_number, maxNumber}
+use Rattle.calls.specs.Limits.{is_number, max_number}
 use Rattle.fibonacci.proofs.Numbers.{first_pos}
 use Rattle.fibonacci.proofs.Lookup.{number-kept, number-none, number-some, first-few, first-within}
 use Rattle.digit_values.specs.Leaves.{Saturated}
@@ -18,22 +18,22 @@ judged : (f v r n : ℕ) → 1 ≤ f → n ≡ f + r → Saturated v r → Exact
 judged f v r n p e k = (
   λ h. omega (arith, k.0 (omega arith)),
   λ h.
-      elim (dec_le v maxNumber) [
-        | yes l ↦ above-number maxNumber n (omega arith) (omega (arith, k.0 l))
-        | no l ↦ above-number maxNumber n (omega arith) (omega (arith, k.1 (omega arith)))
+      elim (dec_le v max_number) [
+        | yes l ↦ above-number max_number n (omega arith) (omega (arith, k.0 l))
+        | no l ↦ above-number max_number n (omega arith) (omega (arith, k.1 (omega arith)))
       ],
 )
 
 -- the first number of few bits, and one that was found
 short : (c : tie.After-first-number) → let a = c.before.before.args in
-    (first a.order a.len ≤ maxNumber) × (c.first-number.result ≡ first a.order a.len)
+    (first a.order a.len ≤ max_number) × (c.first-number.result ≡ first a.order a.len)
 short c =
     let a = c.before.before.args in
     let few = first-few a.order a.len c.before.before.requires.0.0 c.before.if1.true in
     (few, omega (arith, number-kept _ few))
 
 near : (c : tie.Else2) → let a = c.before.before.before.args in
-    (first a.order a.len ≤ maxNumber) × (c.before.first-number2.result ≡ first a.order a.len)
+    (first a.order a.len ≤ max_number) × (c.before.first-number2.result ≡ first a.order a.len)
 near c =
     let a = c.before.before.before.args in
     let some = number-some (first a.order a.len) (λ e. omega (arith, c.if2.false)) in

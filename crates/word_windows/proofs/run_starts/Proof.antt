@@ -3,9 +3,9 @@ use Prim.Native.Nat.{ℕ, ◌+◌, ◌≤◌, ◌<◌, ◌*◌, ◌/◌, ◌%◌
 use native.Mathlib.Omega.{arith}
 use lib.Bits.{bit_and, and_le_l, and_mask}
 use borrow.Author.Rules.{rules}
-use Rattle.bits.specs.Bits.{wordBits}
+use Rattle.bits.specs.Bits.{word_bits}
 use Rattle.bits.proofs.Words.{words-length}
-use Rattle.word_windows.specs.Leaves.{runStarts, RunStarts}
+use Rattle.word_windows.specs.Leaves.{run_starts, RunStarts}
 use Rattle.word_windows.proofs.Starts.{starts-one, run-starts-join}
 use Rattle.word_windows.proofs.run_starts.Statement.{statement}
 use Rattle.word_windows.proofs.run_starts.Tie as tie
@@ -13,18 +13,18 @@ use Rattle.word_windows.proofs.run_starts.Tie as tie
 -- one step: j ones become j + k
 joined : (w j k m x : ℕ) → RunStarts j w x → 1 ≤ j → k ≤ j → k ≤ 64 → j + k ≡ m → RunStarts m w (bit_and x (x * 2 ^ k % 2 ^ 64))
 joined w j k m x e p h l is = (
-  run-starts-join 64 j k x (wordBits 64 w) (words-length 64 w) e.0 p h l ∙ ap (λ (i : ℕ). runStarts i (wordBits 64 w)) is,
+  run-starts-join 64 j k x (word_bits 64 w) (words-length 64 w) e.0 p h l ∙ ap (λ (i : ℕ). run_starts i (word_bits 64 w)) is,
   omega (arith, and_le_l x (x * 2 ^ k % 2 ^ 64), e.1),
 )
 
 pair : (w : ℕ) → w < 2 ^ 64 → RunStarts 2 w (bit_and w (w * 2 ^ 1 % 2 ^ 64))
-pair w h = joined w 1 1 2 w (sym (starts-one (wordBits 64 w)), h) (omega arith) (omega arith) (omega arith) (omega arith)
+pair w h = joined w 1 1 2 w (sym (starts-one (word_bits 64 w)), h) (omega arith) (omega arith) (omega arith) (omega arith)
 
 returns : tie.Need-returns
 returns c =
     let a = c.before.args in
     let two = pair a.w c.before.ranges.w.fits in
-    (two.0 ∙ ap (λ (m : ℕ). runStarts m (wordBits 64 a.w)) (sym c.if1.true), two.1)
+    (two.0 ∙ ap (λ (m : ℕ). run_starts m (word_bits 64 a.w)) (sym c.if1.true), two.1)
 
 shl-result : tie.Need-overflow-shl-result
 shl-result c = search rules

@@ -17,7 +17,7 @@ returns c =
     record {
       window = window-none (unpack a.s.now) a.bit (omega (arith, unpack-length a.s.now));
       whole = λ h. absurd (omega (arith, unpack-length a.s.now));
-      starts-are = (starts_none a.order 64 (omega arith), omega arith);
+      starts_are = (starts_none a.order 64 (omega arith), omega arith);
     }
 
 word-requires : tie.Need-word-requires
@@ -37,7 +37,7 @@ returns-2 c =
     record {
       window = full;
       whole = λ h. some;
-      starts-are = c.run-starts.ensures;
+      starts_are = c.run-starts.ensures;
     }
 
 pub window-at-spec : {M : Type 1} → statement M
