@@ -1,5 +1,7 @@
 // What a call answers as six numbers: the papers' answer number, the place, and four results, which are zeros where there are none. The console and the
 // probes go by it.
+#![tactic(auto)]
+
 ghost use Rattle.std.specs.Prelude.{◌≡◌};
 ghost use Rattle.calls.specs.Calls.{accepted, refused, count_outcome};
 ghost use Rattle.totals.specs.Totals.{total_outcome};

@@ -1,4 +1,6 @@
 // Appending a number to an encoding of order 2 to 6, by its header.
+#![tactic(auto)]
+
 ghost use Rattle.appender.specs.Appending.{AppendPromise};
 ghost use Rattle.appender.specs.Leaves.{Plans};
 

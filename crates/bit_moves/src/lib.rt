@@ -1,4 +1,6 @@
 // Bits of a buffer replaced by others, more or fewer of them: the bits behind them move, by words of 64 bits.
+#![tactic(auto)]
+
 ghost use Rattle.std.specs.Prelude.{◌≡◌, ◌++◌, ◌+◌, ◌*◌, ◌%◌, ◌^◌, ◌≤◌, ◌<◌, length, take, drop};
 ghost use Rattle.bits.specs.Bits.{word_bits, unpack};
 ghost use Rattle.bits.specs.Leaves.{fit};

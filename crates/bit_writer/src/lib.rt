@@ -1,4 +1,6 @@
 // Bits put into a byte slice, up to 56 at once.
+#![tactic(auto)]
+
 ghost use Rattle.std.specs.Prelude.{◌≡◌, ◌++◌, ◌+◌, ◌*◌, ◌^◌, ◌≤◌, ◌<◌, length, drop};
 ghost use Rattle.bits.specs.Bits.{word_bits, unpack, bytes_of};
 ghost use Rattle.bits.specs.Leaves.{put_to, put_at};

@@ -1,4 +1,6 @@
 // A byte slice as a list of bits, the top bit of each byte first.
+#![tactic(auto)]
+
 ghost use Rattle.std.specs.Prelude.{◌≡◌, false, ◌+◌, ◌-◌, ◌≤◌, ◌<◌, length, take, drop, get_or, set};
 ghost use Rattle.bits.specs.Bits.{word_bits, unpack};
 

@@ -1,4 +1,6 @@
 // The table of the table decoder: what each byte, after 0, 1 or 2 ones, does to a pending codeword of order 3.
+#![tactic(auto)]
+
 ghost use Rattle.std.specs.Prelude.{◌≡◌, ◌+◌, ◌*◌, ◌^◌, ◌<◌};
 ghost use Rattle.byte_table.specs.Leaves.{head_words, tail_words, position_words, moved, IsRow, Movable};
 

@@ -1,4 +1,6 @@
 // What every call says: why it refuses, how many there are of something, and the limits that it checks; and how every reader answers.
+#![tactic(auto)]
+
 ghost use Rattle.std.specs.Prelude.{◌≡◌, min, max, length};
 ghost use Rattle.calls.specs.Refusals.{reason};
 ghost use Rattle.calls.specs.Limits.{is_order, is_number};

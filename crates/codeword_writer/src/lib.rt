@@ -1,4 +1,6 @@
 // The codewords of a row of order 2 to 6 put into a buffer.
+#![tactic(auto)]
+
 ghost use Rattle.std.specs.Prelude.{◌≡◌, length};
 ghost use Rattle.bits.specs.Bits.{unpack};
 ghost use Rattle.bits.specs.Leaves.{put_at};

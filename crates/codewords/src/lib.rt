@@ -1,4 +1,6 @@
 // The codeword of a number in order 2 to 6 as a word, at most 47 bits long.
+#![tactic(auto)]
+
 ghost use Rattle.std.specs.Prelude.{◌≡◌, ◌+◌, ◌-◌, ◌^◌, ◌≤◌, ◌<◌, min, leb, length};
 ghost use Rattle.bits.specs.Bits.{bit_value, word_bits};
 ghost use Rattle.fibonacci.specs.Code.{first, codeword};

@@ -1,4 +1,6 @@
 // The console: reads requests from standard input, a line each, and prints the answer to each line before it reads on.
+#![tactic(auto)]
+
 mod listings;
 mod requests;
 mod say;

@@ -1,4 +1,6 @@
 // Reading an encoding of order 2 to 6: by words as far as they go, and then codeword by codeword; and what totals, headers and replacing want to know of it.
+#![tactic(auto)]
+
 ghost use Rattle.std.specs.Prelude.{◌≡◌, ◌*◌, ◌≤◌, min, ltb, length};
 ghost use Rattle.bits.specs.Bits.{unpack};
 ghost use Rattle.calls.specs.Calls.{accepted, and_then};

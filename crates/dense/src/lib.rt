@@ -1,4 +1,6 @@
 // The (s, c)-dense codes of bytes, s from 1 to 254 and c the rest: the limits that calls on them check.
+#![tactic(auto)]
+
 ghost use Rattle.std.specs.Prelude.{◌≡◌};
 ghost use Rattle.dense.specs.Limits.{is_stoppers};
 

@@ -1,4 +1,6 @@
 // Reading bytes of the (s, c)-dense code, s from 1 to 254 and c the rest.
+#![tactic(auto)]
+
 ghost use Rattle.std.specs.Prelude.{◌≤◌, ◌<◌, min, length, drop};
 ghost use Rattle.calls.specs.Limits.{max_number, max_count};
 ghost use Rattle.calls.specs.Reading.{decode};

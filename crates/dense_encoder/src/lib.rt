@@ -1,4 +1,6 @@
 // Writing a row in the (s, c)-dense code of bytes, s from 1 to 254 and c the rest.
+#![tactic(auto)]
+
 ghost use Rattle.std.specs.Prelude.{◌≡◌, ◌++◌, ◌/◌, ◌%◌, ◌≤◌, length, drop};
 ghost use Rattle.calls.specs.declared.Refusal.TheVariants.{BadNumber};
 ghost use Rattle.calls.specs.Calls.{accepted, count_outcome};

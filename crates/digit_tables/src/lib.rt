@@ -1,4 +1,6 @@
 // What a byte is worth as eight digits in order 2 to 6, at each of six places: a constant table for each order.
+#![tactic(auto)]
+
 ghost use Rattle.std.specs.Prelude.{◌≡◌};
 ghost use Rattle.calls.specs.Limits.{Order};
 ghost use Rattle.digit_tables.specs.Leaves.{byte_values};

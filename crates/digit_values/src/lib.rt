@@ -1,4 +1,6 @@
 // What the first bits of a word are worth as digits in order 2 to 6, by a table of bytes.
+#![tactic(auto)]
+
 ghost use Rattle.std.specs.Prelude.{◌≡◌, ◌+◌, ◌-◌, ◌*◌, ◌/◌, ◌^◌, ◌≤◌, ◌<◌, min};
 ghost use Rattle.bits.specs.Bits.{word_bits};
 ghost use Rattle.fibonacci.specs.Code.{value};

@@ -1,4 +1,6 @@
 // Writing a row as its encoding of order 2 to 6.
+#![tactic(auto)]
+
 ghost use Rattle.std.specs.Prelude.{◌≡◌, ◌≤◌, length};
 ghost use Rattle.calls.specs.declared.Refusal.TheVariants.{BadNumber};
 ghost use Rattle.calls.specs.Calls.{accepted};

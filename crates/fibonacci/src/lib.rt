@@ -1,4 +1,6 @@
 // The Fibonacci codes of order 2 to 6: position values and first numbers, by constant tables; the first numbers of order 2 by its position values.
+#![tactic(auto)]
+
 ghost use Rattle.std.specs.Prelude.{◌≡◌, ◌≤◌};
 ghost use Rattle.calls.specs.Limits.{Order, max_number};
 ghost use Rattle.fibonacci.specs.Code.{F, first};

@@ -1,4 +1,6 @@
 // The header of an encoding that comes without one.
+#![tactic(auto)]
+
 ghost use Rattle.std.specs.Prelude.{◌≡◌};
 ghost use Rattle.headers.specs.Headers.{header_outcome};
 ghost use Rattle.header_reader.specs.Reading.{read_header};

@@ -1,4 +1,6 @@
 // What goes with an encoding: how many bits are in use, how many numbers they hold, and their total (paper 02, R-4: a head).
+#![tactic(auto)]
+
 ghost use Rattle.std.specs.Prelude.{◌≡◌};
 ghost use Rattle.headers.specs.Headers.{capacity, is_bad_header};
 

@@ -1,4 +1,6 @@
 // The two functions that the loom's host, written in C, calls on its own buffers. `include/leadginger.h` declares them.
+#![tactic(auto)]
+
 ghost use Rattle.std.specs.Prelude.{◌≡◌, ◌≤◌, length};
 ghost use Rattle.calls.specs.Refusals.{reason};
 ghost use Rattle.calls.specs.Calls.{refused};

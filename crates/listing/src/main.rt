@@ -1,5 +1,7 @@
 // The listing program (paper 01, "The listing"): reads standard input to its end, and prints the listing or the refusal. What it prints is
 // `listing_text::listing`'s.
+#![tactic(auto)]
+
 ghost use Rattle.std.specs.Prelude.{◌≡◌, ◌≤◌, length, take};
 ghost use Rattle.listing_text.specs.Listing.{text, max_text_bytes};
 ghost use Rattle.listing.specs.Leaves.{bytes_read};

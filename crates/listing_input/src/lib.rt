@@ -1,4 +1,6 @@
 // The listing program's input (paper 01, "The listing"): lines with a number each, the first the order and the others the row.
+#![tactic(auto)]
+
 ghost use Rattle.std.specs.Prelude.{◌≡◌, ◌≤◌, length};
 ghost use Rattle.fibonacci.specs.Leaves.{number_or_zero};
 ghost use Rattle.listing_input.specs.Input.{input_line, max_input_bytes, same};

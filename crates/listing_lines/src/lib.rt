@@ -1,4 +1,6 @@
 // The lines of a row's listing (paper 01, "The listing"), put into a buffer.
+#![tactic(auto)]
+
 ghost use Rattle.std.specs.Prelude.{◌≡◌, ◌+◌, ◌*◌, ◌≤◌, length};
 ghost use Rattle.std.proofs.lemmas.List.Edits.{sets};
 ghost use Rattle.calls.specs.Limits.{Order, Legal, max_number, max_count};

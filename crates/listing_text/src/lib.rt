@@ -1,4 +1,6 @@
 // The listing of a row (paper 01, "The listing"), from the bytes of the input to those of the output.
+#![tactic(auto)]
+
 ghost use Rattle.calls.specs.Refusals.{reason};
 ghost use Rattle.listing_text.specs.Listing.{refusal_line, listing_of, printed, text, Puts};
 

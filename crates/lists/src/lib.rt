@@ -1,4 +1,6 @@
 // Copying the first elements of one list over those of another.
+#![tactic(auto)]
+
 ghost use Rattle.std.specs.Prelude.{◌≡◌, ◌++◌, ◌≤◌, length, take, drop};
 
 // The first n numbers of a list over those of another. Requires: both lists have so many, which whoever copies has checked.

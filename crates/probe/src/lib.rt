@@ -1,5 +1,7 @@
 // Every operation of the library for tests and benchmarks in other languages: `probe_X` calls X on the caller's own buffers. What the call answers goes to
 // the last parameter, as far as that has room: the papers' answer number, the place, and four results, which are zeros where there are none.
+#![tactic(auto)]
+
 ghost use Rattle.std.specs.Prelude.{◌≡◌, length, set};
 ghost use Rattle.std.proofs.lemmas.List.Edits.{sets};
 ghost use Rattle.reading.specs.Reading.{read, read_into};

@@ -1,4 +1,6 @@
 // The ones of any range of the bits of a byte slice, and the place of a bit in it, by words.
+#![tactic(auto)]
+
 ghost use Rattle.std.specs.Prelude.{◌≡◌, true, ◌+◌, ◌*◌, ◌/◌, ◌^◌, ◌≤◌, ◌<◌, length, take};
 ghost use Rattle.bits.specs.Bits.{unpack, count, select_bit};
 ghost use Rattle.rank_select.specs.Leaves.{range, Skips};

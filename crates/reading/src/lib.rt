@@ -1,4 +1,6 @@
 // What every reader of a Fibonacci encoding shares: the number of a codeword that ends, and the padding.
+#![tactic(auto)]
+
 ghost use Rattle.std.specs.Prelude.{◌≡◌, ◌^◌, ◌<◌};
 ghost use Rattle.fibonacci.specs.Leaves.{Firsts};
 ghost use Rattle.reading.specs.Leaves.{NumberOf, is_padding};

@@ -1,4 +1,6 @@
 // Replacing a number of an encoding of order 2 to 6, in its buffer; and seeing what comes of it before that.
+#![tactic(auto)]
+
 ghost use Rattle.std.specs.Prelude.{◌≡◌, ◌≤◌};
 ghost use Rattle.calls.specs.Limits.{Order, max_number};
 ghost use Rattle.headers.specs.Headers.{encoding_outcome};

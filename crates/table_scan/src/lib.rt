@@ -1,4 +1,6 @@
 // An encoding of order 3 scanned byte by byte, by a table of 768 rows.
+#![tactic(auto)]
+
 ghost use Rattle.std.specs.Prelude.{◌≡◌, ◌∷◌, [], ◌≤◌, ◌<◌, length};
 ghost use Rattle.std.proofs.lemmas.List.Edits.{sets};
 ghost use Rattle.calls.specs.Limits.{is_number, max_number};

@@ -1,4 +1,6 @@
 // Totals of the numbers of an encoding of order 2 to 6: of a span, and of the row repeated.
+#![tactic(auto)]
+
 ghost use Rattle.std.specs.Prelude.{◌≡◌};
 ghost use Rattle.totals.specs.Totals.{total, repeated_total, total_outcome};
 

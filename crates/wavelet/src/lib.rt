@@ -1,4 +1,6 @@
 // The pruned Wavelet tree of the row index, walked: nothing of it is stored, as it follows from the order and the alphabet.
+#![tactic(auto)]
+
 ghost use Rattle.std.specs.Prelude.{◌≡◌, true, ◌-◌, ◌≤◌, ◌<◌};
 ghost use Rattle.bits.specs.Bits.{bit_of};
 ghost use Rattle.calls.specs.Calls.{accepted, count_outcome};

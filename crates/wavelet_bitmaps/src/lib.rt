@@ -1,4 +1,6 @@
 // Writing the bitmaps of a row: those below a string of the tree, a node first, then its 0 side, then its 1 side.
+#![tactic(auto)]
+
 ghost use Rattle.std.specs.Prelude.{◌*◌, ◌≤◌};
 ghost use Rattle.wavelet.specs.Leaves.{max_index_bytes};
 ghost use Rattle.wavelet_bitmaps.specs.Leaves.{PartitionReady, Partitions, SubtreeReady, SubtreePromise, BitmapsReady, WritesBitmaps};

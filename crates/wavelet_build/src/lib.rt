@@ -1,4 +1,6 @@
 // Building the index of a row.
+#![tactic(auto)]
+
 ghost use Rattle.std.specs.Prelude.{◌≤◌, length};
 ghost use Rattle.calls.specs.Calls.{count_outcome};
 ghost use Rattle.fibonacci.specs.Leaves.{Positions};

@@ -1,4 +1,6 @@
 // Where the bitmaps of an index start and end, which decides whether bytes are one.
+#![tactic(auto)]
+
 ghost use Rattle.std.specs.Prelude.{◌≡◌, true, ◌+◌, ◌*◌, ◌≤◌, length, take, drop};
 ghost use Rattle.bits.specs.Bits.{unpack, count};
 ghost use Rattle.wavelet.specs.Bitmaps.{exact};

@@ -1,4 +1,6 @@
 // The three questions asked of an index, by one walk each.
+#![tactic(auto)]
+
 ghost use Rattle.std.specs.Prelude.{◌≡◌, ◌-◌};
 ghost use Rattle.calls.specs.Limits.{is_outside};
 ghost use Rattle.wavelet.specs.Questions.{extract, rank, select};

@@ -1,5 +1,7 @@
 // The walk of the three questions: down the tree the way of a number, and for select back. It goes over every bitmap once, which also shows whether the
 // bytes are an index.
+#![tactic(auto)]
+
 ghost use Rattle.std.specs.Prelude.{◌≡◌, ◌+◌, ◌-◌, ◌*◌, ◌≤◌, ◌<◌, length, take, drop};
 ghost use Rattle.bits.specs.Bits.{unpack, select_bit};
 ghost use Rattle.wavelet.specs.Leaves.{Ready, side, max_index_bytes};

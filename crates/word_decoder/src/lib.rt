@@ -1,4 +1,6 @@
 // Codewords of order 2 to 6 taken out of an encoding by words of 64 bits.
+#![tactic(auto)]
+
 ghost use Rattle.std.specs.Prelude.{◌≡◌, ◌≤◌, ◌<◌, length};
 ghost use Rattle.bits.specs.Bits.{unpack};
 ghost use Rattle.calls.specs.Limits.{max_number, max_bytes};

@@ -1,4 +1,6 @@
 // Words of 64 bits of an encoding of order 2 to 6: where codewords end in them, and their numbers.
+#![tactic(auto)]
+
 ghost use Rattle.std.specs.Prelude.{◌≡◌, ◌*◌, ◌≤◌, length};
 ghost use Rattle.bits.specs.Bits.{unpack};
 ghost use Rattle.calls.specs.Limits.{Order, max_number};

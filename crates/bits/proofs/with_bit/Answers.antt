@@ -9,9 +9,7 @@ use lib.Bits.{bit_and, bit_or, or_zero_r}
 use mir.Val.{bool_byte}
 use Rattle.bits.specs.Bits.{word_bits}
 use Rattle.bits.proofs.Words.{words-or, words-and-not}
-use borrow.Author.Rules.{rules}
-use Rattle.bits.proofs.with_bit.Statement.{statement}
-use Rattle.bits.proofs.with_bit.Tie as tie
+use Rattle.bits.proofs.with_bit.Goals as goal
 
 -- a bit, as the machine shifts it
 shifted : (p : ℕ) → p < 8 → 1 * 2 ^ p % 256 ≡ 2 ^ p
@@ -27,23 +25,5 @@ cleared b p true h =
     rw (shifted p h)
     (words-or 8 (bit_and b (255 - 2 ^ p)) p h ∙ rw (words-and-not 8 b p h) (set-set (word_bits 8 b) (7 - p) false true))
 
-cast-mask : tie.Need-overflow-cast-mask
-cast-mask c = search rules
-
-shl-mask : tie.Need-overflow-shl-mask
-shl-mask c = search rules
-
-cast-result : tie.Need-overflow-cast-result
-cast-result c = search rules
-
-cast-result-2 : tie.Need-overflow-cast-result-2
-cast-result-2 c = search rules
-
-shl-result : tie.Need-overflow-shl-result
-shl-result c = search rules
-
-returns : tie.Need-returns
+pub returns : goal.returns
 returns c = cleared c.args.b c.args.low c.args.v c.requires
-
-pub with-bit-spec : {M : Type 1} → statement M
-with-bit-spec = tie.close (tie.spec cast-mask shl-mask cast-result cast-result-2 shl-result returns)
