@@ -3,7 +3,7 @@ use mathlib.Core.Bool.{true, false}
 use Prim.Native.Nat.{ℕ, ◌+◌}
 use native.Mathlib.Omega.{arith}
 use borrow.Author.Rules.{rules}
-use borrow.Author.Tests.{not_true, not-false}
+use borrow.Author.Tests.{not-true, not-false}
 use Rattle.bits.specs.Bits.{byte_count}
 use lib.ListN.{length}
 use Rattle.fibonacci.specs.Code.{codeword}
@@ -20,7 +20,7 @@ is-order-requires : tie.Need-is-order-requires
 is-order-requires c κs = search rules
 
 returns : tie.Need-returns
-returns c = append-order _ _ _ _ (sym c.before.is-order.ensures ∙ not_true _ c.if1.true)
+returns c = append-order _ _ _ _ (sym c.before.is-order.ensures ∙ not-true _ c.if1.true)
 
 -- ## What has passed
 
@@ -48,7 +48,7 @@ is-number-requires c κs = search rules
 returns-3 : tie.Need-returns-3
 returns-3 c =
     let g = c.before.before in
-    append-number _ _ _ _ (ordered g.before.before) (headed g) (sym c.before.is-number.ensures ∙ not_true _ c.if3.true)
+    append-number _ _ _ _ (ordered g.before.before) (headed g) (sym c.before.is-number.ensures ∙ not-true _ c.if3.true)
 
 returns-4 : tie.Need-returns-4
 returns-4 c =

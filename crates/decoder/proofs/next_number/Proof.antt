@@ -1,7 +1,7 @@
 use mathlib.Core.Path.{sym, ◌∙◌}
 use native.Mathlib.Omega.{arith}
 use borrow.Author.Rules.{rules}
-use borrow.Author.Tests.{not_true, not-false}
+use borrow.Author.Tests.{not-true, not-false}
 use Rattle.bits.proofs.Bytes.{unpack-length}
 use Rattle.decoder.proofs.Steps.{step-many, step-large, step-number, step-rest, step_end}
 use Rattle.decoder.proofs.next_number.Statement.{statement}
@@ -45,7 +45,7 @@ returns-4 c = λ row g.
     let k = e.before.before.before in
     let start = k.before.before in
     step-large start.args.s.now start.requires.0.0 k.seek.ensures g e.before.if1.false c.before.before.number.result c.before.before.number.ensures start.requires.2
-    e.if3.false (sym c.before.is-number.ensures ∙ not_true _ c.if4.true)
+    e.if3.false (sym c.before.is-number.ensures ∙ not-true _ c.if4.true)
 
 returns-5 : tie.Need-returns-5
 returns-5 c = λ row g.

@@ -2,7 +2,7 @@ use mathlib.Core.Path.{◌≡◌, sym, ◌∙◌}
 use mathlib.Core.Bool.{true}
 use native.Mathlib.Omega.{arith}
 use borrow.Author.Rules.{rules}
-use borrow.Author.Tests.{not_true, not-false}
+use borrow.Author.Tests.{not-true, not-false}
 use Rattle.calls.specs.Limits.{is_order, max_number}
 use Rattle.calls.specs.Reading.{decode}
 use Rattle.calls.proofs.Checks.{order_is}
@@ -20,7 +20,7 @@ is-order-requires : tie.Need-is-order-requires
 is-order-requires c κs = search rules
 
 returns : tie.Need-returns
-returns c = read-order _ _ _ (sym c.before.is-order.ensures ∙ not_true _ c.if1.true)
+returns c = read-order _ _ _ (sym c.before.is-order.ensures ∙ not-true _ c.if1.true)
 
 slice-aggregate-store-row : tie.Need-slice-aggregate-store-row
 slice-aggregate-store-row c = search rules

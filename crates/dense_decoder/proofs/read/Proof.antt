@@ -2,7 +2,7 @@ use mathlib.Core.Path.{◌≡◌, sym, ◌∙◌}
 use mathlib.Core.Bool.{true}
 use native.Mathlib.Omega.{arith}
 use borrow.Author.Rules.{rules}
-use borrow.Author.Tests.{not_true, not-false}
+use borrow.Author.Tests.{not-true, not-false}
 use Rattle.calls.specs.Limits.{max_number}
 use Rattle.calls.specs.Reading.{decode}
 use Rattle.calls.proofs.Decoding.{holds_row}
@@ -21,7 +21,7 @@ is-stoppers-requires : tie.Need-is-stoppers-requires
 is-stoppers-requires c κs = search rules
 
 returns : tie.Need-returns
-returns c = read-stoppers _ _ _ (sym c.before.is-stoppers.ensures ∙ not_true _ c.if1.true)
+returns c = read-stoppers _ _ _ (sym c.before.is-stoppers.ensures ∙ not-true _ c.if1.true)
 
 slice-aggregate-store-row : tie.Need-slice-aggregate-store-row
 slice-aggregate-store-row c = search rules

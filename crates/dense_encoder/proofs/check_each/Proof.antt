@@ -3,7 +3,7 @@ use Prim.Native.Nat.{◌-◌, ◌≤◌}
 use native.Mathlib.Omega.{arith}
 use lib.ListN.{length, drop, drop_of_length-le}
 use borrow.Author.Rules.{rules}
-use borrow.Author.Tests.{not_true, not-false}
+use borrow.Author.Tests.{not-true, not-false}
 use Rattle.calls.specs.declared.Refusal.TheVariants.{BadNumber}
 use Rattle.calls.specs.Calls.{accepted}
 use Rattle.calls.specs.Limits.{check_each}
@@ -40,7 +40,7 @@ returns c =
     let a = c.before.before.before.before.before.before.before.args in
     let l = c.before.before.before.before.before.loop in
     let n = c.before.before.wide in
-    let fault = sym c.before.is-number.ensures ∙ not_true _ c.if1.true in
+    let fault = sym c.before.is-number.ensures ∙ not-true _ c.if1.true in
     sym (l.invariant.2 ∙ each-fault BadNumber a.limit a.row.now l.i n.result (omega arith) n.ensures (accepted (length a.row.now)) fault)
 
 add-i : tie.Need-overflow-add-i invariant-loop decreases-loop

@@ -2,7 +2,7 @@ use mathlib.Core.Path.{◌≡◌, sym, ap, ◌∙◌}
 use native.Mathlib.Omega.{arith}
 use lib.ListN.{length}
 use borrow.Author.Rules.{rules}
-use borrow.Author.Tests.{not_true, not-false}
+use borrow.Author.Tests.{not-true, not-false}
 use Rattle.calls.specs.Calls.{accepted, count_outcome}
 use Rattle.dense.specs.Limits.{Stoppers}
 use Rattle.dense.proofs.Limits.{stoppers-is}
@@ -15,7 +15,7 @@ is-stoppers-requires : tie.Need-is-stoppers-requires
 is-stoppers-requires c κs = search rules
 
 returns : tie.Need-returns
-returns c = write-stoppers _ _ _ (sym c.before.is-stoppers.ensures ∙ not_true _ c.if1.true)
+returns c = write-stoppers _ _ _ (sym c.before.is-stoppers.ensures ∙ not-true _ c.if1.true)
 
 checked : (c : tie.Else1) → Stoppers c.before.before.before.before.args.stoppers
 checked c = stoppers-is _ (sym c.before.is-stoppers.ensures ∙ not-false _ c.if1.false)

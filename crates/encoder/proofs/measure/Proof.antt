@@ -3,7 +3,7 @@ use Prim.Native.Nat.{◌+◌, ◌-◌, ◌≤◌}
 use native.Mathlib.Omega.{arith}
 use lib.ListN.{length}
 use borrow.Author.Rules.{rules}
-use borrow.Author.Tests.{not_true, not-false}
+use borrow.Author.Tests.{not-true, not-false}
 use Rattle.calls.proofs.Checks.{number_is}
 use Rattle.encoder.proofs.Measuring.{Counted, counted_none, counted-more, counted-fault, counted-end}
 use Rattle.encoder.proofs.measure.Statement.{statement}
@@ -51,7 +51,7 @@ returns c =
     let a = c.before.before.before.before.before.before.before.args in
     let l = c.before.before.before.before.before.loop in
     let n = c.before.before.wide in
-    let fault = sym c.before.is-number.ensures ∙ not_true _ c.if1.true in
+    let fault = sym c.before.is-number.ensures ∙ not-true _ c.if1.true in
     counted-fault a.order a.limit a.row.now l.i l.bits l.total l.invariant.2 n.result (omega arith) n.ensures fault
 
 bit-length-requires : tie.Need-bit-length-requires invariant-loop decreases-loop

@@ -1,7 +1,7 @@
 use mathlib.Core.Path.{◌≡◌, sym, ap, ◌∙◌}
 use lib.ListN.{length}
 use borrow.Author.Rules.{rules}
-use borrow.Author.Tests.{not_true, not-false}
+use borrow.Author.Tests.{not-true, not-false}
 use Rattle.calls.specs.Calls.{accepted}
 use Rattle.calls.proofs.Checks.{order_is}
 use Rattle.headers.specs.Headers.{encoding_outcome}
@@ -14,7 +14,7 @@ is-order-requires : tie.Need-is-order-requires
 is-order-requires c κs = search rules
 
 returns : tie.Need-returns
-returns c = write-order _ _ _ (sym c.before.is-order.ensures ∙ not_true _ c.if1.true)
+returns c = write-order _ _ _ (sym c.before.is-order.ensures ∙ not-true _ c.if1.true)
 
 first-numbers-requires : tie.Need-first-numbers-requires
 first-numbers-requires c κs = order_is _ (sym c.before.is-order.ensures ∙ not-false _ c.if1.false)

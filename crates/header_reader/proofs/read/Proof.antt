@@ -4,7 +4,7 @@ use mathlib.Core.List.{List}
 use Prim.Native.Nat.{ℕ}
 use native.Mathlib.Omega.{arith}
 use borrow.Author.Rules.{rules}
-use borrow.Author.Tests.{not_true, not-false}
+use borrow.Author.Tests.{not-true, not-false}
 use Rattle.calls.specs.Calls.{accepted}
 use Rattle.calls.specs.Limits.{is_order, max_number}
 use Rattle.calls.specs.Reading.{decode}
@@ -22,7 +22,7 @@ is-order-requires c κs = search rules
 
 returns : tie.Need-returns
 unfolding read_header
-returns c = rw (sym c.before.is-order.ensures ∙ not_true _ c.if1.true) refl
+returns c = rw (sym c.before.is-order.ensures ∙ not-true _ c.if1.true) refl
 
 -- the order has passed its check
 ordered : (c : tie.Else1) → is_order c.before.before.before.args.order ≡ true

@@ -4,7 +4,7 @@ use Prim.Native.Nat.{ℕ, ◌+◌, ◌-◌, ◌*◌, ◌≤◌}
 use native.Mathlib.Omega.{arith}
 use lib.ListN.{length, take, length-set, length-take}
 use borrow.Author.Rules.{rules}
-use borrow.Author.Tests.{not_true, not-false}
+use borrow.Author.Tests.{not-true, not-false}
 use Rattle.columns.specs.Columns.{decimal}
 use Rattle.listing_input.specs.Input.{input_line, same}
 use Rattle.listing_input.proofs.Input.{after, Parsed, input_none, input-rest, parsed-none, parsed-other, parsed-more, parsed-end}
@@ -83,7 +83,7 @@ returns-3 c =
     let a = c.before.before.before.before.before.before.before.before.before.before.args in
     let l = c.before.before.before.before.before.before.loop in
     let r = read c.before in (
-      sym (parsed-other a.input.now l.i (omega arith) _ r.0 l.numbers l.invariant.2 (sym r.1 ∙ not_true _ c.if3.true)),
+      sym (parsed-other a.input.now l.i (omega arith) _ r.0 l.numbers l.invariant.2 (sym r.1 ∙ not-true _ c.if3.true)),
       λ e. absurd (false≢true e),
       l.invariant.1,
     )

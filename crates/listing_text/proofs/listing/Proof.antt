@@ -2,7 +2,7 @@ use mathlib.Core.Path.{◌≡◌, sym, ◌∙◌}
 use Prim.Native.Nat.{◌-◌, ◌/◌, ◌≤◌}
 use native.Mathlib.Omega.{arith}
 use lib.ListN.{length, get_or, take, drop}
-use borrow.Author.Tests.{not_true, not-false}
+use borrow.Author.Tests.{not-true, not-false}
 use Rattle.calls.specs.Limits.{max_number}
 use Rattle.listing_text.specs.Listing.{listing_of, printed, text}
 use Rattle.listing_text.proofs.Printing.{puts-same}
@@ -45,7 +45,7 @@ returns-2 : tie.Need-returns-2
 returns-2 c =
     let a = c.before.before.before.before.before.before.before.before.before.before.args in
     puts-same _ _ a.out.now c.before.before.refuse2.result _
-    (text-other a.input.now c.before.before.before.before.before.before.before.if1.false (sym c.before.before.before.before.before.parse.ensures.0 ∙ not_true _ c.before.before.before.before.if2.true)) c.before.before.refuse2.ensures
+    (text-other a.input.now c.before.before.before.before.before.before.before.if1.false (sym c.before.before.before.before.before.parse.ensures.0 ∙ not-true _ c.before.before.before.before.if2.true)) c.before.before.refuse2.ensures
 
 array-read-order : tie.Need-array-read-order
 array-read-order c = search rules

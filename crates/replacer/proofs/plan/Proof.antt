@@ -5,7 +5,7 @@ use Prim.Native.Nat.{ℕ, ◌+◌, ◌≤◌, ◌<◌}
 use native.Mathlib.Omega.{arith}
 use native.Mathlib.Nat.{sub-zero}
 use lib.ListN.{length, take, set}
-use borrow.Author.Tests.{not_true, not-false}
+use borrow.Author.Tests.{not-true, not-false}
 use Rattle.fibonacci.specs.Encoding.{encoding}
 use Rattle.fibonacci.proofs.Rows.{encoding-length}
 use Rattle.calls.specs.Calls.{accepted, refused}
@@ -30,7 +30,7 @@ is-order-requires : tie.Need-is-order-requires
 is-order-requires c κs = search rules
 
 returns : tie.Need-returns
-returns c = replace-order _ _ _ _ _ (sym c.before.is-order.ensures ∙ not_true _ c.if1.true)
+returns c = replace-order _ _ _ _ _ (sym c.before.is-order.ensures ∙ not-true _ c.if1.true)
 
 ordered : (c : tie.Else1) → is_order c.before.before.before.args.order ≡ true
 ordered c = sym c.before.is-order.ensures ∙ not-false _ c.if1.false
@@ -93,7 +93,7 @@ returns-4 : tie.Need-returns-4
 returns-4 c =
     let m = c.before.before.before.before.before in
     let r = read m in
-    r.2 ∙ change-number _ _ r.0 _ _ (inside c.before.before) (sym c.before.is-number.ensures ∙ not_true _ c.if4.true)
+    r.2 ∙ change-number _ _ r.0 _ _ (inside c.before.before) (sym c.before.is-number.ensures ∙ not-true _ c.if4.true)
 
 legal : (c : tie.Else4) → is_number max_number c.before.before.before.before.before.before.before.before.before.before.before.before.before.before.args.n ≡ true
 legal c = sym c.before.is-number.ensures ∙ not-false _ c.if4.false

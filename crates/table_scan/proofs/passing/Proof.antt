@@ -1,7 +1,7 @@
 use mathlib.Core.Path.{sym, ◌∙◌}
 use native.Mathlib.Omega.{arith}
 use borrow.Author.Rules.{rules}
-use borrow.Author.Tests.{not_true, not-false}
+use borrow.Author.Tests.{not-true, not-false}
 use Rattle.table_scan.proofs.passing.Statement.{statement}
 use Rattle.table_scan.proofs.passing.Tie as tie
 
@@ -15,7 +15,7 @@ wide-requires-2 : tie.Need-wide-requires-2
 wide-requires-2 c κs = search rules
 
 returns : tie.Need-returns
-returns c = sym c.before.is-number.ensures ∙ not_true _ c.if1.true
+returns c = sym c.before.is-number.ensures ∙ not-true _ c.if1.true
 
 returns-2 : tie.Need-returns-2
 returns-2 c =

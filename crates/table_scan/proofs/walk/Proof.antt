@@ -4,7 +4,7 @@ use Prim.Native.Nat.{ℕ, ◌-◌, ◌≤◌, ◌<◌}
 use native.Mathlib.Omega.{arith}
 use lib.ListN.{length, get_or, take}
 use borrow.Author.Rules.{rules}
-use borrow.Author.Tests.{not_true, not-false}
+use borrow.Author.Tests.{not-true, not-false}
 use Rattle.calls.specs.Calls.{accepted, refused}
 use Rattle.table_scan.proofs.Walking.{Walked, Step, walked_start, walked-state, walked-open, walked_many, walked-fault, walked-number, walked-past, walked-room, walked-shut, walked-padding, walked-rest}
 use Rattle.table_scan.proofs.walk.Statement.{statement}
@@ -156,7 +156,7 @@ returns-4 : tie.Need-returns-4 invariant-loop decreases-loop
 returns-4 c =
     let o = c.before.before in
     let l = o.before.loop in
-    rw (walked-rest l.invariant.2 o.loop-test.false (sym c.before.is-padding.ensures ∙ not_true _ c.if5.true)) ((refl, tt), l.invariant.2.room)
+    rw (walked-rest l.invariant.2 o.loop-test.false (sym c.before.is-padding.ensures ∙ not-true _ c.if5.true)) ((refl, tt), l.invariant.2.room)
 
 returns-5 : tie.Need-returns-5 invariant-loop decreases-loop
 returns-5 c =

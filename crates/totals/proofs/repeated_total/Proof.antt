@@ -4,7 +4,7 @@ use mathlib.Core.List.{List}
 use Prim.Native.Nat.{ℕ, ◌+◌, ◌*◌, ◌-◌, ◌≤◌, ◌<◌}
 use native.Mathlib.Omega.{arith}
 use borrow.Author.Rules.{rules}
-use borrow.Author.Tests.{le-leb, lt-leb, lt-ltb, le-ltb, not_true, not-false}
+use borrow.Author.Tests.{le-leb, lt-leb, lt-ltb, le-ltb, not-true, not-false}
 use Rattle.calls.specs.Calls.{accepted}
 use Rattle.calls.specs.Limits.{is_order, max_number, max_count}
 use Rattle.calls.specs.Reading.{decode}
@@ -35,7 +35,7 @@ is-order-requires c κs = search rules
 
 returns : tie.Need-returns
 unfolding repeated_total
-returns c = rw (sym c.before.is-order.ensures ∙ not_true _ c.if1.true) refl
+returns c = rw (sym c.before.is-order.ensures ∙ not-true _ c.if1.true) refl
 
 sum-span-requires : tie.Need-sum-span-requires
 sum-span-requires c κs = (order_is _ (ordered c), omega arith)

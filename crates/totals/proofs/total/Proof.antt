@@ -5,7 +5,7 @@ use Prim.Native.Nat.{ℕ}
 use native.Mathlib.Omega.{arith}
 use lib.ListN.{length}
 use borrow.Author.Rules.{rules}
-use borrow.Author.Tests.{lt-ltb, le-ltb, not_true, not-false}
+use borrow.Author.Tests.{lt-ltb, le-ltb, not-true, not-false}
 use Rattle.calls.specs.Calls.{accepted}
 use Rattle.calls.specs.Limits.{is_order, max_number}
 use Rattle.calls.specs.Reading.{decode}
@@ -34,7 +34,7 @@ is-order-requires c κs = search rules
 
 returns : tie.Need-returns
 unfolding total
-returns c = rw (sym c.before.is-order.ensures ∙ not_true _ c.if1.true) refl
+returns c = rw (sym c.before.is-order.ensures ∙ not-true _ c.if1.true) refl
 
 sum-span-requires : tie.Need-sum-span-requires
 sum-span-requires c κs = (order_is _ (ordered c), omega arith)

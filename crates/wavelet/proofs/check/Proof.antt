@@ -1,7 +1,7 @@
 use mathlib.Core.Path.{◌≡◌, sym, ap, ◌∙◌}
 use mathlib.Core.Bool.{true}
 use borrow.Author.Rules.{rules}
-use borrow.Author.Tests.{not_true, not-false, lt-ltb, le-ltb}
+use borrow.Author.Tests.{not-true, not-false, lt-ltb, le-ltb}
 use Rattle.calls.specs.Limits.{is_order, is_number}
 use Rattle.wavelet.specs.Questions.{max_alphabet}
 use Rattle.wavelet.proofs.check.Statement.{statement}
@@ -17,7 +17,7 @@ is-order-requires : tie.Need-is-order-requires
 is-order-requires c κs = search rules
 
 returns : tie.Need-returns
-returns c = sym (simp (sym c.before.is-order.ensures ∙ not_true _ c.if1.true))
+returns c = sym (simp (sym c.before.is-order.ensures ∙ not-true _ c.if1.true))
 
 wide-requires : tie.Need-wide-requires
 wide-requires c κs = search rules
@@ -28,7 +28,7 @@ is-number-requires c κs = search rules
 returns-2 : tie.Need-returns-2
 returns-2 c =
     let o = c.before.before.before in
-    sym (simp (ordered o, alphabet c.before ∙ not_true _ c.if2.true))
+    sym (simp (ordered o, alphabet c.before ∙ not-true _ c.if2.true))
 
 returns-3 : tie.Need-returns-3
 returns-3 c = sym (simp (ordered c.before.before.before.before, alphabet c.before.before ∙ not-false _ c.before.if2.false, lt-ltb _ _ c.if3.true))

@@ -2,7 +2,7 @@ use mathlib.Core.Path.{sym, ◌∙◌}
 use mathlib.Core.Bool.{true≢false}
 use native.Mathlib.Omega.{arith}
 use borrow.Author.Rules.{rules}
-use borrow.Author.Tests.{not_true, not-false}
+use borrow.Author.Tests.{not-true, not-false}
 use Rattle.calls.proofs.Checks.{number_is}
 use Rattle.wavelet.proofs.target_codeword.Statement.{statement}
 use Rattle.wavelet.proofs.target_codeword.Tie as tie
@@ -11,7 +11,7 @@ is-number-requires : tie.Need-is-number-requires
 is-number-requires c κs = search rules
 
 returns : tie.Need-returns
-returns c e = absurd (true≢false (sym e ∙ sym c.before.is-number.ensures ∙ not_true _ c.if1.true))
+returns c e = absurd (true≢false (sym e ∙ sym c.before.is-number.ensures ∙ not-true _ c.if1.true))
 
 first-numbers-requires : tie.Need-first-numbers-requires
 first-numbers-requires c κs = search rules

@@ -5,7 +5,7 @@ use Prim.Native.Nat.{ℕ, suc, ◌+◌, ◌-◌, ◌*◌, ◌≤◌, ◌<◌}
 use native.Mathlib.Omega.{arith}
 use lib.ListN.{length, take, drop, length-append, length-take, length-drop}
 use lib.Seq.{length-take-le}
-use borrow.Author.Tests.{not_true, not-false}
+use borrow.Author.Tests.{not-true, not-false}
 use borrow.Rule.Slice.PartMut.{same_len_mid}
 use borrow.Fn.Kinds.{In}
 use borrow.Fn.PlainCycle.{Measures, is, falls, and}
@@ -160,7 +160,7 @@ write-subtree-is-node-requires t c κs = tt
 write-subtree-returns-2 : (t : ℕ) → write-subtree-lts.Need-returns-2 (known t) (write-subtree-at t) write-subtree.Post
 write-subtree-returns-2 t c =
     let a = c.before.before.before.before.before.before.args in
-    let test = sym c.before.is-node.ensures ∙ not_true _ c.if2.true in
+    let test = sym c.before.is-node.ensures ∙ not-true _ c.if2.true in
     (omega arith, subtree-leaf _ _ a.v a.words.now a.at a.out.now test)
 
 write-subtree-partition-requires : (t : ℕ) → write-subtree-lts.Need-partition-requires (known t) (write-subtree-at t) write-subtree.Post

@@ -3,7 +3,7 @@ use Prim.Native.Nat.{ℕ, ◌-◌, ◌≤◌}
 use native.Mathlib.Omega.{arith}
 use lib.ListN.{length, length-set}
 use borrow.Author.Rules.{rules}
-use borrow.Author.Tests.{not_true, not-false}
+use borrow.Author.Tests.{not-true, not-false}
 use Rattle.calls.proofs.Checks.{number_is}
 use Rattle.calls.specs.Limits.{is_number}
 use Rattle.wavelet_build.proofs.Filling.{Filling, filling-none, filling-more, filling-fault, filling-end}
@@ -66,7 +66,7 @@ returns c =
     let a = (start_of x).args in
     let l = x.loop in
     filling-fault a.order a.alphabet a.row.now l.i l.words l.inv.3 c.before.before.wide2.result (omega arith)
-    c.before.before.wide2.ensures (checked c.before ∙ not_true _ c.if1.true)
+    c.before.before.wide2.ensures (checked c.before ∙ not-true _ c.if1.true)
 
 aligned-codeword-requires : tie.Need-aligned-codeword-requires invariant-loop decreases-loop
 aligned-codeword-requires c κs =

@@ -3,7 +3,7 @@ use mathlib.Core.Bool.{true, false}
 use Prim.Native.Nat.{ℕ, suc, ◌+◌, ◌-◌, ◌*◌, ◌<◌, ◌≤◌}
 use native.Mathlib.Omega.{arith}
 use lib.ListN.{length}
-use borrow.Author.Tests.{not_true, not-false}
+use borrow.Author.Tests.{not-true, not-false}
 use borrow.Fn.Kinds.{In}
 use borrow.Fn.PlainCycle.{Measures, is, falls, and}
 use Rattle.wavelet.specs.Leaves.{node_test, side_of}
@@ -120,7 +120,7 @@ end-of-is-node-requires t c κs = tt
 end-of-returns : (t : ℕ) → end-of-lts.Need-returns (end-of-known t) (end-of-at t) end_of_lem.Post
 end-of-returns t c =
     let z = c.before.before.before in
-    end-leaf _ _ z.args.v _ _ _ z.requires.1.4 (sym c.before.is-node.ensures ∙ not_true _ c.if1.true)
+    end-leaf _ _ z.args.v _ _ _ z.requires.1.4 (sym c.before.is-node.ensures ∙ not-true _ c.if1.true)
 
 end-of-mul-total : (t : ℕ) → end-of-lts.Need-overflow-mul-total (end-of-known t) (end-of-at t) end_of_lem.Post
 end-of-mul-total t c = omega (arith, c.before.before.before.requires.1.3)
@@ -177,7 +177,7 @@ start-of-add-own : (t : ℕ) → start-of-lts.Need-overflow-add-own (start-of-kn
 start-of-add-own t c = omega (arith, c.before.requires.1.0.3, c.before.requires.1.2)
 
 start-of-returns : (t : ℕ) → start-of-lts.Need-returns (start-of-known t) (start-of-at t) start_of.Post
-start-of-returns t c = let a = c.before.before.args in starts-zero a.order a.limit a.v a.ones a.b.now a.at a.one a.k (not_true _ c.if1.true)
+start-of-returns t c = let a = c.before.before.args in starts-zero a.order a.limit a.v a.ones a.b.now a.at a.one a.k (not-true _ c.if1.true)
 
 start-of-returns-2 : (t : ℕ) → start-of-lts.Need-returns-2 (start-of-known t) (start-of-at t) start_of.Post
 start-of-returns-2 t c =

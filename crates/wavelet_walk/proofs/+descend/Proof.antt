@@ -3,7 +3,7 @@ use mathlib.Core.Bool.{true}
 use Prim.Native.Nat.{ℕ, suc, ◌+◌, ◌-◌, ◌*◌, ◌<◌, ◌≤◌}
 use native.Mathlib.Omega.{arith}
 use lib.ListN.{length}
-use borrow.Author.Tests.{not_true, not-false}
+use borrow.Author.Tests.{not-true, not-false}
 use borrow.Fn.Kinds.{In}
 use borrow.Fn.PlainCycle.{Measures, is, falls, and}
 use Rattle.bits.specs.Bits.{unpack}
@@ -118,7 +118,7 @@ descend-returns : (t : ℕ) → lts.Need-returns (known t) (descend-at t) descen
 descend-returns t c =
     let z = c.before.before.before.before in
     let p = z.requires.1 in
-    find-leaf _ _ z.args.v _ _ _ z.args.question z.args.x z.args.i p.0.4 p.1 (sym c.before.before.is-node.ensures ∙ not_true _ c.before.if1.true)
+    find-leaf _ _ z.args.v _ _ _ z.args.question z.args.x z.args.i p.0.4 p.1 (sym c.before.before.is-node.ensures ∙ not-true _ c.before.if1.true)
     _ c.at_leaf.ensures
 
 descend-mul-total : (t : ℕ) → lts.Need-overflow-mul-total (known t) (descend-at t) descend.Post

@@ -1,7 +1,7 @@
 use mathlib.Core.Path.{sym, ap, ◌∙◌}
 use native.Mathlib.Omega.{arith}
 use borrow.Author.Rules.{rules}
-use borrow.Author.Tests.{not_true, not-false}
+use borrow.Author.Tests.{not-true, not-false}
 use Rattle.calls.specs.Calls.{count_outcome}
 use Rattle.wavelet.specs.Leaves.{Passed}
 use Rattle.wavelet.proofs.Answering.{tree-passed, tree-refused, legal-order, legal-alphabet, is-root, index-long, ask-not, target-aligned}
@@ -80,7 +80,7 @@ returns-3 c =
     let f = few-at r in
     let a = (start_of f.before).args in
     walk-not (passed f.before) a.b.now r.root.result r.root.ensures a.question _ a.i d.descend.result w.wide.ensures
-    d.before.before.least.ensures d.descend.ensures a.n (sym x.is-exact.ensures ∙ not_true _ c.if2.true)
+    d.before.before.least.ensures d.descend.ensures a.n (sym x.is-exact.ensures ∙ not-true _ c.if2.true)
 
 returns-4 : tie.Need-returns-4
 returns-4 c =

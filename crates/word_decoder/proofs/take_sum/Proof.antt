@@ -6,7 +6,7 @@ use native.Mathlib.Omega.{arith}
 use lib.ListN.{length, length-append}
 use lib.Count.{count_leading_zeros, leading_le}
 use borrow.Author.Rules.{rules}
-use borrow.Author.Tests.{not_true, not-false}
+use borrow.Author.Tests.{not-true, not-false}
 use Rattle.lists.specs.Lists.{sum}
 use Rattle.lists.proofs.Sums.{sum-snoc}
 use Rattle.bits.specs.Bits.{unpack}
@@ -35,7 +35,7 @@ passed c = sym c.before.is-number.ensures ∙ not-false _ c.if2.false
 
 -- .. or has not
 failed : (c : tie.Then2 invariant-loop decreases-loop) → is_number c.before.before.before.before.before.before.before.before.args.limit c.before.before.number.result ≡ false
-failed c = sym c.before.is-number.ensures ∙ not_true _ c.if2.true
+failed c = sym c.before.is-number.ensures ∙ not-true _ c.if2.true
 
 -- a number more
 module _ (c : tie.Else2 invariant-loop decreases-loop) where
