@@ -2,13 +2,11 @@ use mathlib.Core.Path.{◌≡◌, sym, ap, ◌∙◌}
 use Prim.Native.Nat.{ℕ, ◌+◌, ◌≤◌, ◌<◌, ◌*◌, ◌/◌, ◌%◌, ◌^◌}
 use native.Mathlib.Omega.{arith}
 use lib.Bits.{bit_and, and_le_l, and_mask}
-use borrow.Author.Rules.{rules}
 use Rattle.bits.specs.Bits.{word_bits}
 use Rattle.bits.proofs.Words.{words-length}
 use Rattle.word_windows.specs.Leaves.{run_starts, RunStarts}
 use Rattle.word_windows.proofs.Starts.{starts-one, run-starts-join}
-use Rattle.word_windows.proofs.run_starts.Statement.{statement}
-use Rattle.word_windows.proofs.run_starts.Tie as tie
+use Rattle.word_windows.proofs.run_starts.Goals as goal
 
 -- one step: j ones become j + k
 joined : (w j k m x : ℕ) → RunStarts j w x → 1 ≤ j → k ≤ j → k ≤ 64 → j + k ≡ m → RunStarts m w (bit_and x (x * 2 ^ k % 2 ^ 64))
@@ -20,30 +18,24 @@ joined w j k m x e p h l is = (
 pair : (w : ℕ) → w < 2 ^ 64 → RunStarts 2 w (bit_and w (w * 2 ^ 1 % 2 ^ 64))
 pair w h = joined w 1 1 2 w (sym (starts-one (word_bits 64 w)), h) (omega arith) (omega arith) (omega arith) (omega arith)
 
-returns : tie.Need-returns
-returns c =
-    let a = c.before.args in
-    let two = pair a.w c.before.ranges.w.fits in
-    (two.0 ∙ ap (λ (m : ℕ). run_starts m (word_bits 64 a.w)) (sym c.if1.true), two.1)
+pub returns-then-order-eq2 : goal.returns-then-order-eq2
+returns-then-order-eq2 c =
+    let a = c.args in
+    let two = pair a.w c.ranges.w.fits in
+    (two.0 ∙ ap (λ (m : ℕ). run_starts m (word_bits 64 a.w)) (sym c.if-order-eq2.true), two.1)
 
-shl-result : tie.Need-overflow-shl-result
-shl-result c = search rules
-
-returns-2 : tie.Need-returns-2
-returns-2 c =
-    let a = c.before.before.args in
+pub returns-then-order-le4 : goal.returns-then-order-le4
+returns-then-order-le4 c =
+    let a = c.args in
     let k : a.order / 2 ^ 1 + 2 ≡ a.order = omega arith in
-    joined a.w 2 (a.order / 2 ^ 1) a.order _ (pair a.w c.before.before.ranges.w.fits) (omega arith) (omega arith) (omega arith) (omega arith)
+    joined a.w 2 (a.order / 2 ^ 1) a.order _ (pair a.w c.ranges.w.fits) (omega arith) (omega arith) (omega arith) (omega arith)
 
-shl-result-2 : tie.Need-overflow-shl-result-2
-shl-result-2 c = omega (arith, and_mask c.before.before.args.order 2)
+pub overflow_shl-result-2 : goal.overflow_shl-result-2
+overflow_shl-result-2 c = omega (arith, and_mask c.args.order 2)
 
-returns-3 : tie.Need-returns-3
-returns-3 c =
-    let a = c.before.before.args in
+pub returns : goal.returns
+returns c =
+    let a = c.args in
     let k : bit_and a.order 3 + 4 ≡ a.order = omega (arith, and_mask a.order 2) in
-    let four = joined a.w 2 2 4 _ (pair a.w c.before.before.ranges.w.fits) (omega arith) (omega arith) (omega arith) (omega arith) in
+    let four = joined a.w 2 2 4 _ (pair a.w c.ranges.w.fits) (omega arith) (omega arith) (omega arith) (omega arith) in
     joined a.w 4 (bit_and a.order 3) a.order _ four (omega arith) (omega arith) (omega arith) (omega arith)
-
-pub run-starts-spec : {M : Type 1} → statement M
-run-starts-spec = tie.close (tie.spec returns shl-result returns-2 shl-result-2 returns-3)
