@@ -14,7 +14,7 @@ use headers::{EncodingAnswer, HeaderAnswer};
 use totals::TotalAnswer;
 use wavelet::QuestionAnswer;
 
-#[derive(Drop)]
+#[derive(Clone, Copy)]
 pub struct Answer {
     pub number: u64,
     pub place: u64,

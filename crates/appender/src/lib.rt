@@ -8,14 +8,14 @@ use calls::Refusal;
 use headers::{EncodingAnswer, Header};
 
 // What is to be put into a buffer, a codeword after the bits in use, and the header afterwards.
-#[derive(Drop)]
+#[derive(Clone, Copy)]
 struct Extension {
     word: codewords::Word,
     header: Header,
 }
 
 // All that is decided before the buffer may be touched.
-#[derive(Drop)]
+#[derive(Clone, Copy)]
 enum Planned {
     Put(Extension),
     Refused(Refusal),

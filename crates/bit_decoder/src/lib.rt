@@ -10,7 +10,7 @@ ghost use Rattle.bit_decoder.specs.Leaves.{Sought};
 
 // Bits up to bit `bit`: first `len`, the last of them a zero, whose value is `val`, and then `run` ones. With as many ones as the order they are a codeword;
 // with fewer, no codeword ended, and no bit is left.
-#[derive(Drop)]
+#[derive(Clone, Copy)]
 pub struct Next {
     pub bit: usize,
     pub len: usize,

@@ -7,7 +7,7 @@ ghost use Rattle.bits.specs.Leaves.{fit};
 ghost use Rattle.bit_moves.specs.Leaves.{splice, stream, Moved};
 
 // How far bits have been moved: up to the byte where the next word goes, and the word that was read last, whose low bits are still to be written.
-#[derive(Drop)]
+#[derive(Clone, Copy)]
 struct Progress {
     next: usize,
     word: u64,

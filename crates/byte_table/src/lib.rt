@@ -9,7 +9,7 @@ mod tables;
 use tables::{HEADS, POSITIONS_FROM_MINUS_TWO, TAILS};
 
 // What remains of a byte: how many bits up to the last zero, their value, and the trailing ones after it, 2 at most.
-#[derive(Drop)]
+#[derive(Clone, Copy)]
 pub struct Rest {
     pub len: usize,
     pub value: u64,
@@ -17,7 +17,7 @@ pub struct Rest {
 }
 
 // A row of the table.
-#[derive(Drop)]
+#[derive(Clone, Copy)]
 pub struct Row {
     // How many codewords end in the byte.
     pub count: usize,

@@ -7,7 +7,7 @@ ghost use Rattle.calls.specs.Limits.{is_order, is_number};
 ghost use Rattle.calls.specs.Leaves.{Holds, Delivers};
 
 // Why a call refuses: a case for each meaning, of which several may have the same number in the papers.
-#[derive(Drop)]
+#[derive(Clone, Copy)]
 pub enum Refusal {
     // 1: the order is not 2 to 6.
     BadOrder,
@@ -60,7 +60,7 @@ pub enum Refusal {
 }
 
 // A refusal as the papers give it: its number, and a place, which is 0 where they name none.
-#[derive(Drop)]
+#[derive(Clone, Copy)]
 pub struct Numbered {
     pub number: u64,
     pub place: usize,
@@ -126,7 +126,7 @@ the bytes end inside a codeword\n\
 the header has more bits, numbers or total than the buffer or a row can have\n";
 
 // What a call answers whose one result is a count: of numbers, bits or bytes.
-#[derive(Drop)]
+#[derive(Clone, Copy)]
 pub enum CountAnswer {
     Count(usize),
     Refused(Refusal),

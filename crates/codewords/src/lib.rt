@@ -13,14 +13,14 @@ mod tables;
 use tables::{LOW_DIGITS, LOW_DIGITS_2, LOW_DIGITS_3, LOW_DIGITS_4, LOW_DIGITS_5, LOW_DIGITS_6};
 
 // A codeword: its bits are the len low ones of a word.
-#[derive(Drop)]
+#[derive(Clone, Copy)]
 pub struct Word {
     pub bits: u64,
     pub len: usize,
 }
 
 // Digits of a codeword above its lowest: the word so far, with the last ones below them, and the value that is left for the lowest.
-#[derive(Drop)]
+#[derive(Clone, Copy)]
 struct High {
     word: u64,
     left: u64,

@@ -18,7 +18,7 @@ const MAX_LINE: usize = 327679;
 const MAX_ANSWER: usize = 393216;
 
 // The line that is being read: how many of its bytes are in the buffer, and whether it had more than fit; and whether there is somebody to answer.
-#[derive(Drop)]
+#[derive(Clone, Copy)]
 struct Line {
     len: usize,
     long: bool,

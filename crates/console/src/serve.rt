@@ -14,14 +14,14 @@ const MAX_NUMBERS: usize = 4100;
 const GROWN: usize = 6;
 
 // How much room an output has: enough for every answer, or exactly so much.
-#[derive(Drop)]
+#[derive(Clone, Copy)]
 enum Room {
     Enough,
     Exactly(u64),
 }
 
 // A request: its line in the help; how many elements its output has; whether its room was named, so that the whole output is shown.
-#[derive(Drop)]
+#[derive(Clone, Copy)]
 struct Request {
     k: usize,
     size: usize,

@@ -4,7 +4,7 @@ ghost use Rattle.std.specs.Prelude.{◌<◌, ◌≤◌, length};
 use calls::least;
 
 // What words say: a number, or how many elements of a list, or where on the line to go on; or that they have another form.
-#[derive(Drop)]
+#[derive(Clone, Copy)]
 pub enum Meaning {
     Number(u64),
     Count(usize),
@@ -12,7 +12,7 @@ pub enum Meaning {
 }
 
 // A word: from one place of a line up to but without another. Where the two are the same there is none.
-#[derive(Drop)]
+#[derive(Clone, Copy)]
 pub struct Word {
     pub from: usize,
     pub to: usize,

@@ -16,7 +16,7 @@ ghost use Rattle.decoder.specs.Leaves.{summary, span_outcome, Leads};
 const WORDS_FROM: usize = 17;
 
 // What stands next in an encoding: a number and the bit after its codeword; the end of the row; or why the encoding is refused.
-#[derive(Drop)]
+#[derive(Clone, Copy)]
 enum Step {
     Number(u64, usize),
     End,
@@ -24,7 +24,7 @@ enum Step {
 }
 
 // What is told of a row: how many numbers it has, how many bits they take, the sum of those of a span and of all, and the bit where the span begins.
-#[derive(Drop)]
+#[derive(Clone, Copy)]
 pub struct Summary {
     pub count: usize,
     pub bits: usize,
@@ -33,7 +33,7 @@ pub struct Summary {
     pub start: usize,
 }
 
-#[derive(Drop)]
+#[derive(Clone, Copy)]
 pub enum SpanAnswer {
     Row(Summary),
     Refused(calls::Refusal),

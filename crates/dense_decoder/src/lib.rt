@@ -13,7 +13,7 @@ use bits::wide;
 use calls::{CountAnswer, Refusal};
 
 // What stands next: a number and the byte after its codeword, or a codeword whose number is above the limit.
-#[derive(Drop)]
+#[derive(Clone, Copy)]
 enum Step {
     Number(u64, usize),
     Large,

@@ -13,7 +13,7 @@ ghost use Rattle.dense_encoder.specs.Leaves.{count_from, Checked, PutBefore, Fit
 
 use calls::{CountAnswer, Refusal};
 
-#[derive(Drop)]
+#[derive(Clone, Copy)]
 struct Divided {
     quotient: u32,
     remainder: u32,

@@ -6,7 +6,7 @@ ghost use Rattle.headers.specs.Headers.{capacity, is_bad_header};
 
 use calls::Refusal;
 
-#[derive(Drop)]
+#[derive(Clone, Copy)]
 pub struct Header {
     pub bits: usize,
     pub count: usize,
@@ -14,14 +14,14 @@ pub struct Header {
 }
 
 // What a call answers that writes an encoding: the bytes in use, and the header.
-#[derive(Drop)]
+#[derive(Clone, Copy)]
 pub enum EncodingAnswer {
     Encoded { bytes: usize, header: Header },
     Refused(Refusal),
 }
 
 // What a call answers that finds a header.
-#[derive(Drop)]
+#[derive(Clone, Copy)]
 pub enum HeaderAnswer {
     Found(Header),
     Refused(Refusal),

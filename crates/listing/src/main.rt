@@ -11,7 +11,7 @@ use libc::{STDERR_FILENO, STDIN_FILENO, STDOUT_FILENO};
 // One byte more than an input may have: who has read so many knows that there are too many.
 const READ_BYTES: usize = 45068;
 
-#[derive(Drop)]
+#[derive(Clone, Copy)]
 enum Input {
     // So many bytes, up to the end of the input or of the buffer.
     Bytes(usize),

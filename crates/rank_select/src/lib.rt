@@ -73,7 +73,7 @@ fn count_from(s: &[u8], at: usize, n: usize, v: bool) -> usize
 }
 
 // How far the search for a bit has come: to bit `at` of the range, with `left` bits of its kind still to be skipped.
-#[derive(Drop)]
+#[derive(Clone, Copy)]
 struct Skipped {
     at: usize,
     left: usize,

@@ -12,7 +12,7 @@ use decoder::{SpanAnswer, Summary};
 use headers::{EncodingAnswer, Header};
 
 // What is to be put into a buffer: a codeword for the bits, `old` of them, that stand at a bit; and the header afterwards.
-#[derive(Drop)]
+#[derive(Clone, Copy)]
 struct Replacement {
     start: usize,
     old: usize,
@@ -21,7 +21,7 @@ struct Replacement {
 }
 
 // All that is decided before the buffer may be touched.
-#[derive(Drop)]
+#[derive(Clone, Copy)]
 enum Planned {
     Put(Replacement),
     Refused(Refusal),

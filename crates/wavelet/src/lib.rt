@@ -18,14 +18,14 @@ pub const MAX_ALPHABET: u64 = 4096;
 pub const MAX_INDEX_BYTES: usize = 8192;
 
 // What a question answers: the number at a place, how often a number stands before a place, or the place of a use; and the visits of the number concerned.
-#[derive(Drop)]
+#[derive(Clone, Copy)]
 pub enum QuestionAnswer {
     Answered { result: usize, visits: usize },
     Refused(Refusal),
 }
 
 // A string of bits on a walk down the tree, by what the walk needs of it.
-#[derive(Drop)]
+#[derive(Clone, Copy)]
 pub struct Cursor {
     // How many bits it has.
     pub depth: usize,

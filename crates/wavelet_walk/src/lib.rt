@@ -11,7 +11,7 @@ use calls::{CountAnswer, Refusal};
 use wavelet::QuestionAnswer;
 
 // What a walk is for. It has a place or a use in view.
-#[derive(Drop)]
+#[derive(Clone, Copy)]
 pub enum Question {
     // The number at the place: at a node the walk goes by the bit there.
     Extract,
@@ -22,7 +22,7 @@ pub enum Question {
 }
 
 // What a walk finds: where the bitmaps end; what the question asks for, and how many nodes begin the codeword of the number that the walk comes to.
-#[derive(Drop)]
+#[derive(Clone, Copy)]
 struct Walked {
     end: usize,
     result: usize,

@@ -8,14 +8,14 @@ ghost use Rattle.fibonacci.specs.Leaves.{Firsts};
 ghost use Rattle.word_decoder.specs.Leaves.{SegmentInput, Summed, EndsSegment, CountsInSpan, SpanTaken, RowTaken};
 
 // How far codewords were taken: up to which bit, and how many.
-#[derive(Drop)]
+#[derive(Clone, Copy)]
 pub struct Progress {
     pub bit: usize,
     pub count: usize,
 }
 
 // A part of a row that was taken: up to which bit, how many numbers, and their sum.
-#[derive(Drop)]
+#[derive(Clone, Copy)]
 struct Segment {
     bit: usize,
     taken: usize,
@@ -24,7 +24,7 @@ struct Segment {
 
 // How far codewords were taken, with what is told of a span: the sum of its numbers and of all, and the bit where its first place begins, or the last bit
 // reached where that is before it.
-#[derive(Drop)]
+#[derive(Clone, Copy)]
 pub struct SpanProgress {
     pub bit: usize,
     pub count: usize,

@@ -10,7 +10,7 @@ ghost use Rattle.digit_values.specs.Leaves.{IsBody};
 ghost use Rattle.word_windows.specs.Leaves.{body_number, ExactIfLegal, RunStarts, LoadedWindow};
 
 // The next bits of an encoding, the first on top, and where in them as many ones as the order begin.
-#[derive(Drop)]
+#[derive(Clone, Copy)]
 pub struct Window {
     pub left: u64,
     pub starts: u64,

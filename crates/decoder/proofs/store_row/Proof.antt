@@ -31,7 +31,7 @@ start l = l.before.before.before.before.before.before.before.before.before.befor
 
 -- the list is as long as it was
 sized : (l : tie.At-loop invariant-loop decreases-loop) → length l.loop.row ≡ length (start l).args.row.now
-sized l = l.loop.invariant.1 ∙ l.before.before.before.store_words_lem.ensures.1
+sized l = l.loop.invariant.1 ∙ l.before.before.before.store_words.ensures.1
 
 -- the bytes are not too many
 short : (c : tie.Else1 invariant-loop decreases-loop) → length c.before.before.before.before.args.s.now ≤ max_bytes
@@ -77,7 +77,7 @@ store-words-requires : tie.Need-store-words-requires invariant-loop decreases-lo
 store-words-requires c κs = let w = c.before.before in (w.first-numbers.ensures, short w.before, w.before.before.before.before.before.requires.1)
 
 loop-holds : tie.Need-loop-init invariant-loop decreases-loop
-loop-holds c = (c.before.before.store_words_lem.ensures.0, refl)
+loop-holds c = (c.before.before.store_words.ensures.0, refl)
 
 next-number-requires : tie.Need-next-number-requires invariant-loop decreases-loop
 next-number-requires c κs =

@@ -55,7 +55,7 @@ returns-3 : tie.Need-returns-3
 returns-3 c =
     let m = c.before in
     write-number _ _ _ (ordered m.before.before.before.before.before) (omega arith) _ _
-    (sym (ap header_outcome m.decreases.given.1) ∙ m.before.before.measure.ensures)
+    (sym (ap header_outcome m.measured.given.1) ∙ m.before.before.measure.ensures)
 
 returns-4 : tie.Need-returns-4
 returns-4 c =

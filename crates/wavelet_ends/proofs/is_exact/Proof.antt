@@ -19,7 +19,7 @@ ones-in-requires : tie.Need-ones-in-requires
 ones-in-requires c κs = search rules
 
 returns-3 : tie.Need-returns-3
-returns-3 c = let a = c.before.before.before.before.args in exact-is a.b.now a.end c.before.before.if1.false c.before.if2.false _ c.ones_in_lem.ensures.0
+returns-3 c = let a = c.before.before.before.before.args in exact-is a.b.now a.end c.before.before.if1.false c.before.if2.false _ c.ones_in.ensures.0
 
 pub is-exact-spec : {M : Type 1} → statement M
 is-exact-spec = tie.close (tie.spec mul-total returns add-if2 returns-2 ones-in-requires returns-3)

@@ -1,0 +1,10 @@
+use Prim.Native.Nat.{◌-◌}
+use Rattle.dense.specs.Limits.{continuers}
+use Rattle.dense_encoder.proofs.Putting.{Putting}
+use Rattle.dense_encoder.proofs.put_codeword.Given as goal
+
+abbrev pub invariant-loop-y : goal.invariant-loop-y
+invariant-loop-y l = Putting l.stoppers (continuers l.stoppers) l.n l.initial.out l.end l.out l.at l.y
+
+abbrev pub decreases-loop-y : goal.decreases-loop-y
+decreases-loop-y l = l.y
