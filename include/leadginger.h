@@ -17,8 +17,8 @@
 
    The caller vouches for the buffers: a pointer has as many bytes behind it as its length says, and the two buffers of leadginger_read do
    not overlap. A pointer may be null where its length is 0 (as the data() of an empty std::vector may be): a null s is then the empty
-   encoding, and a null out an output without room. The archive to link is for Linux on x86-64, and leadginger_read takes some 25 KB of the
-   stack. */
+   encoding, and a null out an output without room. The archive to link, crates/host/out/libhost.a, is for Linux on x86-64-v2 and needs the C
+   library alone, and leadginger_read takes some 25 KB of the stack. */
 #ifndef LEADGINGER_H
 #define LEADGINGER_H
 
