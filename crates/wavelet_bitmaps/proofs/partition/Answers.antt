@@ -10,47 +10,8 @@ pub loop-i-init : goal.loop-i-init
 loop-i-init c =
     (partition-none _ _ _ _ _ c.requires.1, refl, refl, refl)
 
-pub offset_bounds-words-i : goal.offset_bounds-words-i
-offset_bounds-words-i c = omega arith
-
-pub bounds-words-i : goal.bounds-words-i
-bounds-words-i c = omega arith
-
-pub next_bit-one-requires : goal.next_bit-one-requires
-next_bit-one-requires c = omega arith
-
-pub overflow_add-at : goal.overflow_add-at
-overflow_add-at c = omega arith
-
-pub set_bit-requires : goal.set_bit-requires
-set_bit-requires c = tt
-
-pub offset_bounds-spare-ones : goal.offset_bounds-spare-ones
-offset_bounds-spare-ones c = omega arith
-
-pub bounds-spare-ones : goal.bounds-spare-ones
-bounds-spare-ones c = omega arith
-
-pub overflow_sub-words : goal.overflow_sub-words
-overflow_sub-words c = omega arith
-
-pub offset_bounds-words-i-in-loop-i : goal.offset_bounds-words-i-in-loop-i
-offset_bounds-words-i-in-loop-i c = omega arith
-
-pub bounds-words-i-in-loop-i : goal.bounds-words-i-in-loop-i
-bounds-words-i-in-loop-i c = omega arith
-
-pub overflow_cast-ones : goal.overflow_cast-ones
-overflow_cast-ones c = tt
-
 pub overflow_add-ones : goal.overflow_add-ones
 overflow_add-ones c = omega (arith, bit-few c.next_bit-one.result)
-
-pub overflow_step-i : goal.overflow_step-i
-overflow_step-i c = omega arith
-
-pub loop-i-smaller : goal.loop-i-smaller
-loop-i-smaller c = omega arith
 
 pub loop-i-preserved : goal.loop-i-preserved
 loop-i-preserved c =
@@ -60,21 +21,6 @@ loop-i-preserved c =
     let a = c.args in
     let here : l.i < length a.words.now = omega arith in
     (rw set.ensures (partition-next l.invariant.0 here bit.result (sym bit.ensures) _ (omega (arith, bit-few bit.result))), refl, simp length-set l.invariant.2, set.auto.s ∙ l.invariant.3)
-
-pub overflow_sub-zeros : goal.overflow_sub-zeros
-overflow_sub-zeros c = omega arith
-
-pub offset_bounds-words-zeros : goal.offset_bounds-words-zeros
-offset_bounds-words-zeros c = omega arith
-
-pub slice_bounds-copy-count : goal.slice_bounds-copy-count
-slice_bounds-copy-count c = omega arith
-
-pub slice_bounds-copy-start : goal.slice_bounds-copy-start
-slice_bounds-copy-start c = omega arith
-
-pub slice_bounds-copy-end : goal.slice_bounds-copy-end
-slice_bounds-copy-end c = omega arith
 
 pub copy-requires : goal.copy-requires
 copy-requires c =
