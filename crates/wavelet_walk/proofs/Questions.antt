@@ -2,13 +2,11 @@
 use mathlib.Core.Path.{◌≡◌, refl, sym, ap, ◌∙◌}
 use mathlib.Core.Bool.{Bool, true}
 use mathlib.Core.List.{List, [], ◌∷◌, ◌++◌}
-use mathlib.Core.Logic.{◌⊎◌, ⊎_elim}
 use Prim.Native.Nat.{ℕ, ◌+◌, ◌-◌, ◌≤◌, ◌<◌}
 use native.Mathlib.Omega.{arith}
 use native.Mathlib.Decide.{dec_le}
 use lib.ListN.{length, take, drop, replicate}
 use lib.Seq.{take-take}
-use denote.Enum.Declared.{tag_of}
 use Rattle.bits.specs.Bits.{bit_of, count}
 use Rattle.fibonacci.specs.Code.{codeword}
 use Rattle.wavelet.specs.Nodes.{is_prefix, Tree, node}
@@ -22,33 +20,32 @@ use Rattle.wavelet.proofs.Sides.{count-side, place-fits, rank-side, select-side,
 use Rattle.wavelet_walk.specs.Leaves.{answer_of, at_leaf, InView, turn, onward, back, Goes}
 use Rattle.wavelet_walk.specs.declared.Question.{Question}
 use Rattle.wavelet_walk.specs.declared.Question.TheVariants.{Extract, Rank, Select}
-use Rattle.wavelet_walk.specs.contracts.Question.{the_type}
 
 -- ## In the code
 
 -- not extract: the walk goes by a codeword
-pub by-codeword : (question : Question) → (tag_of the_type question ≡ 1) ⊎ (tag_of the_type question ≡ 2) → (x : ℕ) (s : List ℕ) (at i depth : ℕ)
+pub by-codeword : (question : Question) → (question ≡ Extract → ⊥) → (x : ℕ) (s : List ℕ) (at i depth : ℕ)
     → bit_of x (31 - depth) ≡ turn question x s at i depth
-by-codeword Extract h x s at i depth = absurd (⊎_elim (λ (e : 0 ≡ 1). omega arith) (λ (e : 0 ≡ 2). omega arith) h)
+by-codeword Extract h x s at i depth = absurd (h refl)
 by-codeword Rank h x s at i depth = refl
 by-codeword Select h x s at i depth = refl
 
 -- not select: a place is in view, and what was found stays
-pub in_place : (question : Question) → (tag_of the_type question ≡ 0) ⊎ (tag_of the_type question ≡ 1) → (i k : ℕ) → InView question i k → i ≤ k
+pub in_place : (question : Question) → (question ≡ Select → ⊥) → (i k : ℕ) → InView question i k → i ≤ k
 in_place Extract h i k v = v
 in_place Rank h i k v = v
-in_place Select h i k v = absurd (⊎_elim (λ (e : 2 ≡ 0). omega arith) (λ (e : 2 ≡ 1). omega arith) h)
+in_place Select h i k v = absurd (h refl)
 
-pub found-stays : (question : Question) → (tag_of the_type question ≡ 0) ⊎ (tag_of the_type question ≡ 1) → (a : Bool) (b : List Bool) (r : ℕ) → r ≡ back question a b r
+pub found-stays : (question : Question) → (question ≡ Select → ⊥) → (a : Bool) (b : List Bool) (r : ℕ) → r ≡ back question a b r
 found-stays Extract h a b r = refl
 found-stays Rank h a b r = refl
-found-stays Select h a b r = absurd (⊎_elim (λ (e : 2 ≡ 0). omega arith) (λ (e : 2 ≡ 1). omega arith) h)
+found-stays Select h a b r = absurd (h refl)
 
-pub place-onward : (question : Question) → (tag_of the_type question ≡ 0) ⊎ (tag_of the_type question ≡ 1) → (a : Bool) (b : List Bool) (at i c : ℕ)
+pub place-onward : (question : Question) → (question ≡ Select → ⊥) → (a : Bool) (b : List Bool) (at i c : ℕ)
     → at + i ≤ length b → c ≡ count true (take i (drop at b)) → side a (i - c) c ≡ onward question a (drop at b) i
 place-onward Extract h a b at i c fits ones = sym (count-side i b at c fits ones a)
 place-onward Rank h a b at i c fits ones = sym (count-side i b at c fits ones a)
-place-onward Select h a b at i c fits ones = absurd (⊎_elim (λ (e : 2 ≡ 0). omega arith) (λ (e : 2 ≡ 1). omega arith) h)
+place-onward Select h a b at i c fits ones = absurd (h refl)
 
 -- ## What is in view
 
