@@ -1,5 +1,4 @@
 use mathlib.Core.Path.{refl}
-use Prim.Native.Nat.{◌-◌}
 use native.Mathlib.Omega.{arith}
 use Rattle.columns.proofs.Columns.{counted_none, counted-few, counted-more, counted-end}
 use Rattle.columns.proofs.decimal.Goals as goal
