@@ -1,6 +1,7 @@
 // What is said, put into a buffer: each function puts text from a place on, as far as there is room, and gives the place after it.
 ghost use Rattle.std.specs.Prelude.{◌≤◌};
 
+use crate::words;
 use std::num::wrapping_add_usize;
 
 // The most bytes that a request may have or write: an encoding of the dense code has up to 102,400.
@@ -22,10 +23,14 @@ pub fn text(out: &mut [u8], at: usize, s: &[u8]) -> usize {
     at
 }
 
+// A number: its column, which has room for the longest, without the spaces in front.
 pub fn number(out: &mut [u8], at: usize, n: u64) -> usize {
-    let mut digits = [0u8; 20];
-    let k = io::decimal(n, &mut digits);
-    text(out, at, &digits[0..k])
+    let mut column = [b' '; 20];
+    columns::put(&mut column, 0, 20, n);
+    let w = words::next(&column, 0);
+    let from = w.from;
+    let to = w.to;
+    text(out, at, &column[from..to])
 }
 
 // A character of a template: a `#` stands for the result j.
