@@ -1,6 +1,5 @@
 -- Headers: number after number appended by true ones, and all that is promised of them.
 use mathlib.Core.Path.{◌≡◌, refl, sym, ap, ap₂, ◌∙◌}
-use mathlib.Core.Bool.{true}
 use mathlib.Core.List.{List, [], ◌∷◌, ◌++◌, append_assoc, append-nil, flatten}
 use Prim.Native.Nat.{ℕ, ◌+◌, ◌-◌, ◌≤◌}
 use native.Mathlib.Omega.{arith}
@@ -17,7 +16,7 @@ use Rattle.calls.specs.Reading.{check_finished, contents, decode}
 use Rattle.calls.proofs.Checks.{accepted-one}
 use Rattle.calls.proofs.Writing.{Writable}
 use Rattle.headers.specs.declared.Header.{Header}
-use Rattle.headers.specs.Headers.{header, header_of, no_header, capacity, is_bad_header}
+use Rattle.headers.specs.Headers.{header_of, no_header, capacity, is_bad_header}
 use Rattle.headers.proofs.Headers.{is-good}
 use Rattle.header_reader.specs.Reading.{read_header}
 use Rattle.encoder.specs.Writing.{write, write_into}

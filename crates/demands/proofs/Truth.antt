@@ -3,7 +3,7 @@ use mathlib.Core.Path.{◌≡◌, refl, sym, ap, ◌∙◌}
 use mathlib.Core.Bool.{Bool, true, not}
 use mathlib.Core.List.{List, [], ◌∷◌, ◌++◌}
 use mathlib.Core.Logic.{◌↔◌}
-use Prim.Native.Nat.{ℕ, ◌+◌, ◌-◌, ◌*◌, ◌≤◌}
+use Prim.Native.Nat.{ℕ, ◌+◌, ◌*◌, ◌≤◌}
 use native.Mathlib.Omega.{arith}
 use lib.ListN.{length, take, drop, length-append, length-take, length-drop}
 use lib.Seq.{take-append_seam, take-take, take_all}
@@ -11,10 +11,10 @@ use borrow.Author.Tests.{le-ltb, not-false}
 use Rattle.lists.specs.Lists.{sum}
 use Rattle.lists.proofs.Each.{all_append}
 use Rattle.lists.proofs.Sums.{sum-snoc}
-use Rattle.bits.specs.Bits.{byte_count, unpack, pack, count}
+use Rattle.bits.specs.Bits.{byte_count, unpack, pack}
 use Rattle.bits.proofs.Bytes.{unpack-length, unpack-take}
 use Rattle.codes.specs.Parse.{rest}
-use Rattle.fibonacci.specs.Code.{number, codeword}
+use Rattle.fibonacci.specs.Code.{codeword}
 use Rattle.fibonacci.specs.Encoding.{row_bits, encoding, parse, numbers}
 use Rattle.fibonacci.proofs.Rows.{bits-snoc, numbers-bits, encoding-length, encoding-read, bits-few}
 use Rattle.calls.specs.declared.Refusal.TheVariants.{BadOrder}
@@ -27,7 +27,7 @@ use Rattle.calls.proofs.Writing.{Writable}
 use Rattle.reading.specs.Reading.{fibonacci}
 use Rattle.reading.proofs.Decoding.{decode_is, decoded-rest}
 use Rattle.headers.specs.declared.Header.{Header}
-use Rattle.headers.specs.Headers.{header, header_of}
+use Rattle.headers.specs.Headers.{header_of}
 use Rattle.headers.proofs.Headers.{capacity-most, capacity-least, Good}
 use Rattle.totals.specs.Totals.{total}
 use Rattle.totals.proofs.Totals.{row-most}

@@ -1,14 +1,14 @@
 -- How long codewords of legal numbers are: at most 25 bytes, for every s from 1 to 254.
 use mathlib.Core.Path.{◌≡◌, refl, ap}
 use mathlib.Core.List.{List, [], ◌∷◌, flatten}
-use Prim.Native.Nat.{ℕ, zero, suc, ◌-◌, ◌*◌, ◌≤◌, ◌<◌}
+use Prim.Native.Nat.{ℕ, zero, suc, ◌*◌, ◌≤◌, ◌<◌}
 use native.Mathlib.Omega.{arith}
 use native.Mathlib.Nat.{mul-le-mul}
 use native.Mathlib.Decide.{dec_le}
 use lib.ListN.{length, length-append}
 use Rattle.calls.specs.Limits.{Legal, max_number, max_count}
 use Rattle.calls.proofs.Checks.{number_is}
-use Rattle.dense.specs.Code.{first, number, codeword}
+use Rattle.dense.specs.Code.{first, codeword}
 use Rattle.dense.specs.Encoding.{encoding}
 use Rattle.dense.specs.Limits.{Stoppers, continuers, max_dense_bytes}
 use Rattle.dense.proofs.Numbers.{shorter, first-is, first-up, codeword-good, number-length}

@@ -1,5 +1,5 @@
 -- The listing of a row (paper 01, "The listing"; "When a call says no": Listing program).
-use Rattle.std.specs.Prelude.{◌≡◌, not, List, ◌++◌, ℕ, ◌+◌, ltb, length, get_or, drop}
+use Rattle.std.specs.Prelude.{◌≡◌, not, List, ◌++◌, ℕ, ltb, length, get_or, drop}
 use Rattle.columns.specs.Columns.{ascii, column}
 use Rattle.calls.specs.declared.Refusal.TheVariants.{TooMuchInput, BadLine}
 use Rattle.calls.specs.declared.CountAnswer.{CountAnswer}

@@ -1,6 +1,6 @@
 -- The visits of a number, counted in the tree: the nodes that begin its codeword.
 use mathlib.Core.Path.{◌≡◌, refl, sym, ap}
-use mathlib.Core.Bool.{Bool, true, false, true≢false}
+use mathlib.Core.Bool.{Bool, true, true≢false}
 use mathlib.Core.HLevel.{⊥_prop}
 use mathlib.Core.Logic.{⊎_elim, ◌↔◌, ∥∥₁_elim}
 use mathlib.Core.List.Memᴰ

@@ -1,5 +1,4 @@
 use mathlib.Core.Path.{refl}
-use Prim.Native.Nat.{◌-◌}
 use native.Mathlib.Omega.{arith}
 use Rattle.bit_moves.proofs.Moves.{moved_word}
 use Rattle.bit_moves.proofs.move_words.Goals as goal

@@ -4,7 +4,6 @@ use mathlib.Core.Logic.{⊎_elim, inl, inr}
 use Prim.Native.Nat.{ℕ}
 use native.Mathlib.Omega.{arith}
 use lib.ListN.{get_or}
-use borrow.Author.Tests.{leb-true, leb-false}
 use Rattle.fibonacci.specs.Code.{first}
 use Rattle.fibonacci.specs.Leaves.{number_or_zero}
 use Rattle.fibonacci.proofs.Lookup.{entry_at}

@@ -1,5 +1,4 @@
 use Prim.Native.Nat.{◌-◌}
-use Rattle.lists.specs.Lists.{sum}
 use Rattle.bits.specs.Bits.{unpack}
 use Rattle.calls.specs.Limits.{max_count}
 use Rattle.word_decoder.specs.Leaves.{Spanned}

@@ -1,4 +1,4 @@
-use Prim.Native.Nat.{◌-◌, ◌≤◌}
+use Prim.Native.Nat.{◌≤◌}
 use lib.ListN.{length, drop}
 use Rattle.dense.specs.Encoding.{Rest}
 use Rattle.dense_decoder.proofs.finished_end.Given as goal

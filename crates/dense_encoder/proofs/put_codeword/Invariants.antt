@@ -1,4 +1,3 @@
-use Prim.Native.Nat.{◌-◌}
 use Rattle.dense.specs.Limits.{continuers}
 use Rattle.dense_encoder.proofs.Putting.{Putting}
 use Rattle.dense_encoder.proofs.put_codeword.Given as goal

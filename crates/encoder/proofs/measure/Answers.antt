@@ -1,5 +1,5 @@
 use mathlib.Core.Path.{refl, sym, ◌∙◌}
-use Prim.Native.Nat.{◌+◌, ◌-◌}
+use Prim.Native.Nat.{◌+◌}
 use native.Mathlib.Omega.{arith}
 use Rattle.calls.proofs.Checks.{number_is}
 use Rattle.encoder.proofs.Measuring.{Counted, counted_none, counted-more, counted-fault, counted-end}

@@ -3,7 +3,6 @@ use mathlib.Core.Bool.{false≢true}
 use Prim.Native.Nat.{ℕ, ◌+◌, ◌-◌, ◌*◌}
 use native.Mathlib.Omega.{arith}
 use lib.ListN.{take, length-set, length-take}
-use borrow.Author.Tests.{not-true, not-false}
 use Rattle.columns.specs.Columns.{decimal}
 use Rattle.listing_input.specs.Input.{input_line, same}
 use Rattle.listing_input.proofs.Input.{after, input_none, input-rest, parsed-none, parsed-other, parsed-more, parsed-end}

@@ -1,6 +1,6 @@
 use mathlib.Core.Path.{sym}
 use native.Mathlib.Omega.{arith}
-use Rattle.replacer.proofs.Replacing.{Room, planned-as, planned-room}
+use Rattle.replacer.proofs.Replacing.{planned-as, planned-room}
 use Rattle.replacer.proofs.preview.Goals as goal
 
 pub returns-in-Refused : goal.returns-in-Refused

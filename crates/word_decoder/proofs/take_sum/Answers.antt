@@ -1,7 +1,7 @@
 use mathlib.Core.Path.{◌≡◌, refl, sym, ◌∙◌}
 use mathlib.Core.Bool.{true, false}
 use mathlib.Core.List.{List, [], ◌∷◌, ◌++◌}
-use Prim.Native.Nat.{ℕ, ◌+◌, ◌-◌, ◌*◌, ◌%◌, ◌^◌, ◌≤◌}
+use Prim.Native.Nat.{ℕ, ◌+◌, ◌*◌, ◌%◌, ◌^◌, ◌≤◌}
 use native.Mathlib.Omega.{arith}
 use lib.ListN.{length, length-append}
 use lib.Count.{count_leading_zeros, leading_le}
@@ -71,8 +71,7 @@ returns-then-starts-eq0 c =
 
 pub loop-taken-init : goal.loop-taken-init
 loop-taken-init c =
-    let e = c.window_at-first.ensures in
-    (
+    let e = c.window_at-first.ensures in (
       [],
       record {
         taken = taken_none _ _ _ _ (omega (arith, unpack-length c.args.s.now, c.requires.5));
