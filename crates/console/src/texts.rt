@@ -4,7 +4,7 @@ ghost use Rattle.std.specs.Prelude.{◌≤◌, length};
 
 use crate::{say, words};
 
-pub const HELP: [u8; 2566] = *b"\
+pub const HELP: [u8; 2585] = *b"\
 A request is a line:\n\
 \x20   codewords ORDER ROW                             codewords 2 3 1 4 2 1\n\
 \x20   write ORDER ROW                                 write 2 3 1 4 2 1\n\
@@ -35,8 +35,8 @@ BITS COUNT TOTAL: the header of BYTES: bits in use, how many numbers they hold, 
 STOPPERS: how many byte values, from 0 up, end a codeword of the dense code, 1 to 254.\n\
 REPEATS: 1 to 10000. SHARED: what each repeat has in common with the next, 0 up to the row's total.\n\
 table-..: by the table for order 3. TEXT: input of the listing program; $ is a line feed, ^ a carriage return, ~ a tab.\n\
-preview: what replace would answer; nothing is written.\n\
-room N: the output of a request that writes has N elements, and all are shown; the buffer of append, replace and preview begins with BYTES.\n\
+preview: what replace would answer; nothing is written. Its buffer begins with BYTES too.\n\
+room N: the output of a request that writes has N elements, and all are shown; that of append and replace begins with BYTES.\n\
 NO n: a refusal, with its number. A line that begins with # is passed over.\n";
 
 // What a request is answered, line by line as in the help: the results, each a `#`; what was written; and, where its room was named, the whole output.
