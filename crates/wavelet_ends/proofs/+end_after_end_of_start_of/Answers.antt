@@ -3,6 +3,7 @@ use mathlib.Core.Bool.{true, false}
 use Prim.Native.Nat.{◌+◌, ◌*◌, ◌≤◌}
 use native.Mathlib.Omega.{arith}
 use lib.ListN.{length}
+use borrow.Author.Rules.{rules}
 use Rattle.wavelet.specs.Leaves.{side_of}
 use Rattle.wavelet.proofs.Walking.{is-node, side-cursor, less, end_none, end-leaf, end_short, end-cut, end_on, starts-one, closes-zero}
 use Rattle.wavelet_ends.proofs.+end_after_end_of_start_of.Goals as goal
@@ -13,7 +14,7 @@ pub end_after-returns-then-ones-eq0 : goal.end_after-returns-then-ones-eq0
 end_after-returns-then-ones-eq0 t c =
     let a = c.args in
     let u = side_of a.order a.v true in
-    closes-zero a.order a.limit a.v a.ones a.b.now a.at a.one _ u c.if-one.false refl (end_none _ _ u _ _ _ c.requires.0.4 (omega (arith, c.if-ones-eq0.true)))
+    closes-zero a.order a.limit a.v a.ones a.b.now a.at a.one _ u (search rules) refl (end_none _ _ u _ _ _ c.requires.0.4 (omega (arith, c.if-ones-eq0.true)))
 
 pub end_after-end_of-requires : goal.end_after-end_of-requires
 end_after-end_of-requires t c =
