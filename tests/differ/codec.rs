@@ -48,8 +48,8 @@ fn append_answer(number: u64, order: usize, buf: &[u8], header: Header, n: u32) 
     decided(number, &reasons)
 }
 
-/// The answer of a replacement and of its preview, and what decided it: of 2 the limit that is passed, where it is one alone; where all went well, whether fewer bytes, as many or more
-/// are then in use.
+/// The answer of a replacement and of its preview, and what decided it: of 2 the limit that is passed, where it is one alone; where all went well, whether fewer
+/// bytes, as many or more are then in use.
 fn replace_answer(a: &Answer<(u64, Header)>, buf: &[u8], used: usize) -> String {
     let bytes = a.results.0 as usize;
     let reasons = match a.number {

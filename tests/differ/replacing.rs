@@ -1,6 +1,6 @@
-//! Replacing, and its preview, beside the model: a codeword of every length for one of every length, at every bit of a byte; before any number of bits up to 40 bytes, so that
-//! the bits behind move by words and by what is left of one; at every place of short rows, and in full ones. Buffers hold anything behind the bytes in use, are
-//! exactly as long as is needed, a byte shorter, or longer.
+//! Replacing, and its preview, beside the model: a codeword of every length for one of every length, at every bit of a byte; before any number of bits up to 40
+//! bytes, so that the bits behind move by words and by what is left of one; at every place of short rows, and in full ones. Buffers hold anything behind the
+//! bytes in use, are exactly as long as is needed, a byte shorter, or longer.
 
 use crate::appending::{content, FAR};
 use crate::codec::Codec;
