@@ -1,6 +1,6 @@
 -- What a call answers (paper 01, "When a call says no") as six numbers.
-use Rattle.std.specs.Prelude.{List, [], ◌∷◌, ℕ}
-use Rattle.calls.specs.Calls.{Outcome, accepted, and_then, answer_number, answer_place, answer_results}
+use Rattle.std.specs.Prelude.{List, [], ◌∷◌, ℕ, Ok}
+use Rattle.calls.specs.Calls.{Outcome, and_then, answer_number, answer_place, answer_results}
 use Rattle.headers.specs.declared.Header.{Header}
 use Rattle.answers.specs.declared.Answer.{Answer}
 
@@ -16,17 +16,17 @@ six o =
 
 -- Of a call with one result, and with two
 abbrev pub single : Outcome ℕ → Outcome Results
-single o = and_then o (λ x. accepted (x, 0, 0, 0))
+single o = and_then o (λ x. Ok (x, 0, 0, 0))
 
 abbrev pub pair : Outcome (ℕ × ℕ) → Outcome Results
-pair o = and_then o (λ x. accepted (x.0, x.1, 0, 0))
+pair o = and_then o (λ x. Ok (x.0, x.1, 0, 0))
 
 -- Of a call that answers a header: its bits, count and total; and of one that answers how many bytes are in use besides, first these
 abbrev pub three : Outcome Header → Outcome Results
-three o = and_then o (λ h. accepted (h.bits, h.count, h.total, 0))
+three o = and_then o (λ h. Ok (h.bits, h.count, h.total, 0))
 
 abbrev pub headed : Outcome (ℕ × Header) → Outcome Results
-headed o = and_then o (λ x. accepted (x.0, x.1.bits, x.1.count, x.1.total))
+headed o = and_then o (λ x. Ok (x.0, x.1.bits, x.1.count, x.1.total))
 
 -- The six numbers of the struct
 abbrev pub values : Answer → List ℕ

@@ -1,18 +1,11 @@
-// What a call answers as six numbers: the papers' answer number, the place, and four results, which are zeros where there are none. The console and the
-// probes go by it.
+// What a call answers as six numbers: the papers' answer number, the place, and four results, which are zeros where there are none. The probes go by it.
 #![tactic(auto)]
 
-ghost use Rattle.std.specs.Prelude.{◌≡◌};
-ghost use Rattle.calls.specs.Calls.{accepted, refused, count_outcome};
-ghost use Rattle.totals.specs.Totals.{total_outcome};
-ghost use Rattle.headers.specs.Headers.{header_outcome, encoding_outcome};
-ghost use Rattle.wavelet.specs.Answers.{question_outcome};
+ghost use Rattle.std.specs.Prelude.{◌≡◌, Ok, Err};
 ghost use Rattle.answers.specs.Leaves.{six, single, pair, three, headed, values};
 
-use calls::CountAnswer;
-use headers::{EncodingAnswer, HeaderAnswer};
-use totals::TotalAnswer;
-use wavelet::QuestionAnswer;
+use calls::Refusal;
+use headers::Header;
 
 #[derive(Clone, Copy)]
 pub struct Answer {
@@ -24,76 +17,94 @@ pub struct Answer {
     pub fourth: u64,
 }
 
-fn accepted(first: u64, second: u64, third: u64, fourth: u64) -> Answer
-    ensures { values result ≡ six (accepted (first, second, third, fourth)) }
-{
-    Answer {
-        number: 0,
-        place: 0,
-        first,
-        second,
-        third,
-        fourth,
-    }
-}
-
-fn refused(r: calls::Refusal) -> Answer
-    ensures { values result ≡ six (refused r) }
-{
-    let reason = calls::reason(r);
-    Answer {
-        number: reason.number,
-        place: reason.place as u64,
-        first: 0,
-        second: 0,
-        third: 0,
-        fourth: 0,
-    }
-}
-
-pub fn of_count(a: CountAnswer) -> Answer
-    ensures { values result ≡ six (single (count_outcome a)) }
-{
-    match a {
-        CountAnswer::Count(n) => accepted(n as u64, 0, 0, 0),
-        CountAnswer::Refused(r) => refused(r),
-    }
-}
-
-pub fn of_total(a: TotalAnswer) -> Answer
-    ensures { values result ≡ six (single (total_outcome a)) }
-{
-    match a {
-        TotalAnswer::Sum(total) => accepted(total, 0, 0, 0),
-        TotalAnswer::Refused(r) => refused(r),
-    }
-}
-
-pub fn of_header(a: HeaderAnswer) -> Answer
-    ensures { values result ≡ six (three (header_outcome a)) }
-{
-    match a {
-        HeaderAnswer::Found(h) => accepted(h.bits as u64, h.count as u64, h.total, 0),
-        HeaderAnswer::Refused(r) => refused(r),
-    }
-}
-
-pub fn of_encoding(a: EncodingAnswer) -> Answer
-    ensures { values result ≡ six (headed (encoding_outcome a)) }
-{
-    match a {
-        EncodingAnswer::Encoded { bytes, header: h } => {
-            accepted(bytes as u64, h.bits as u64, h.count as u64, h.total)
+impl Answer {
+    fn accepted(first: u64, second: u64, third: u64, fourth: u64) -> Answer
+        ensures { values result ≡ six (Ok (first, second, third, fourth)) }
+    {
+        Answer {
+            number: 0,
+            place: 0,
+            first,
+            second,
+            third,
+            fourth,
         }
-        EncodingAnswer::Refused(r) => refused(r),
     }
 }
 
-pub fn of_question(a: QuestionAnswer) -> Answer
-    ensures { values result ≡ six (pair (question_outcome a)) }
-{
-    match a {
-        QuestionAnswer::Answered { result, visits } => accepted(result as u64, visits as u64, 0, 0),
-        QuestionAnswer::Refused(r) => refused(r),
+impl From<Refusal> for Answer {
+    ghost from_gives = { λ r a. values a ≡ six (Err r) };
+
+    fn from(r: Refusal) -> Answer {
+        let (number, place) = r.reason();
+        Answer {
+            number,
+            place: place as u64,
+            first: 0,
+            second: 0,
+            third: 0,
+            fourth: 0,
+        }
+    }
+}
+
+// A count: of numbers, bits or bytes.
+impl From<Result<usize, Refusal>> for Answer {
+    ghost from_gives = { λ x a. values a ≡ six (single x) };
+
+    fn from(x: Result<usize, Refusal>) -> Answer {
+        match x {
+            Ok(count) => Answer::accepted(count as u64, 0, 0, 0),
+            Err(r) => Answer::from(r),
+        }
+    }
+}
+
+// A total.
+impl From<Result<u64, Refusal>> for Answer {
+    ghost from_gives = { λ x a. values a ≡ six (single x) };
+
+    fn from(x: Result<u64, Refusal>) -> Answer {
+        match x {
+            Ok(total) => Answer::accepted(total, 0, 0, 0),
+            Err(r) => Answer::from(r),
+        }
+    }
+}
+
+impl From<Result<Header, Refusal>> for Answer {
+    ghost from_gives = { λ x a. values a ≡ six (three x) };
+
+    fn from(x: Result<Header, Refusal>) -> Answer {
+        match x {
+            Ok(h) => Answer::accepted(h.bits as u64, h.count as u64, h.total, 0),
+            Err(r) => Answer::from(r),
+        }
+    }
+}
+
+// How many bytes an encoding has, and its header.
+impl From<Result<(usize, Header), Refusal>> for Answer {
+    ghost from_gives = { λ x a. values a ≡ six (headed x) };
+
+    fn from(x: Result<(usize, Header), Refusal>) -> Answer {
+        match x {
+            Ok((bytes, h)) => {
+                Answer::accepted(bytes as u64, h.bits as u64, h.count as u64, h.total)
+            }
+            Err(r) => Answer::from(r),
+        }
+    }
+}
+
+// What a question asks for, and the visits.
+impl From<Result<(usize, usize), Refusal>> for Answer {
+    ghost from_gives = { λ x a. values a ≡ six (pair x) };
+
+    fn from(x: Result<(usize, usize), Refusal>) -> Answer {
+        match x {
+            Ok((found, visits)) => Answer::accepted(found as u64, visits as u64, 0, 0),
+            Err(r) => Answer::from(r),
+        }
     }
 }

@@ -6,20 +6,23 @@ use Prim.Native.Nat.{ℕ, ◌≤◌, ◌<◌}
 use native.Mathlib.Omega.{arith}
 use lib.Dec.{leb, ltb}
 use lib.ListN.{length}
-use borrow.Author.Tests.{le-leb, lt-leb, leb-false, lt-ltb, le-ltb, ltb-false, not-false}
+use borrow.Author.Tests.{le-leb, lt-leb, leb-false, le-ltb, ltb-false, not-false}
 use Rattle.bits.specs.Bits.{Bytes, byte_count, unpack}
 use Rattle.bits.specs.Leaves.{put_at}
 use Rattle.bits.proofs.Put.{put-packed}
 use Rattle.fibonacci.specs.Code.{codeword}
 use Rattle.calls.specs.declared.Refusal.{Refusal}
 use Rattle.calls.specs.declared.Refusal.TheVariants.{BadOrder, BadHeader, BadNumber, FullRow, NoRoom}
-use Rattle.calls.specs.Calls.{accepted, refused}
 use Rattle.calls.specs.Limits.{is_order, is_number, is_outside, max_number, max_count}
-use Rattle.calls.proofs.Checks.{number-inside, inside-number, number-outside, check-passed, accepted-one}
+use Rattle.calls.proofs.Checks.{is-order, number_is, number-inside, inside-number, number-outside, check-passed, accepted-one}
 use Rattle.headers.specs.declared.Header.{Header}
 use Rattle.headers.specs.Headers.{capacity, is_bad_header}
 use Rattle.headers.proofs.Headers.{capacity-most, Good, good-is, is-good}
 use Rattle.appender.specs.Appending.{extended, append, append_into}
+use Rattle.std.specs.Prelude.{Ok, Err}
+
+-- what the checks say that are made before
+pub ruleset checks = (is-order, number_is, number-inside, number-outside, good-is, capacity-most)
 
 module _ (m room : ℕ) (h : Header) (n : ℕ) where
   -- it accepts the number
@@ -30,7 +33,7 @@ module _ (m room : ℕ) (h : Header) (n : ℕ) where
     pub count : h.count < max_count
     pub fits : (extended m h n).bits ≤ capacity room
 
-  pub append-is : (x : ℕ × Header) → append m room h n ≡ accepted x → Appendable × (x ≡ (byte_count (extended m h n).bits, extended m h n))
+  pub append-is : (x : ℕ × Header) → append m room h n ≡ Ok x → Appendable × (x ≡ (byte_count (extended m h n).bits, extended m h n))
   unfolding append
   append-is x e =
       let p1 = check-passed BadOrder (not (is_order m)) _ _ e in
@@ -48,44 +51,29 @@ module _ (m room : ℕ) (h : Header) (n : ℕ) where
         sym (accepted-one p5.1),
       )
 
-  pub append-accepts : Appendable → append m room h n ≡ accepted (byte_count (extended m h n).bits, extended m h n)
+  pub append-accepts : Appendable → append m room h n ≡ Ok (byte_count (extended m h n).bits, extended m h n)
   unfolding append
   append-accepts a =
       rw (a.asked, is-good room h a.good, number-inside max_number n a.legal, lt-leb max_count h.count a.count, le-ltb (capacity room) _ a.fits) refl
 
-  -- ## What is refused, check by check
+  -- ## What is refused
 
-  pub append-order : is_order m ≡ false → append m room h n ≡ refused BadOrder
+  pub append-order : is_order m ≡ false → append m room h n ≡ Err BadOrder
   unfolding append
   append-order o = rw o refl
 
-  module _ (o : is_order m ≡ true) where
-    pub append-header : is_bad_header room h ≡ true → append m room h n ≡ refused BadHeader
-    unfolding append
-    append-header b = rw (o, b) refl
-
-    module _ (g : is_bad_header room h ≡ false) where
-      pub append-number : is_number max_number n ≡ false → append m room h n ≡ refused (BadNumber 0)
-      unfolding append
-      append-number f = rw (o, g, number-outside max_number n f) refl
-
-      module _ (legal : is_number max_number n ≡ true) where
-        pub append-full : max_count ≤ h.count → append m room h n ≡ refused FullRow
-        unfolding append
-        append-full c = rw (o, g, number-inside max_number n legal, le-leb max_count h.count c) refl
-
-        pub append-room : h.count < max_count → capacity room < (extended m h n).bits → append m room h n ≡ refused NoRoom
-        unfolding append
-        append-room c l = rw (o, g, number-inside max_number n legal, lt-leb max_count h.count c, lt-ltb (capacity room) _ l) refl
+  pub append-full : is_order m ≡ true → is_bad_header room h ≡ false → is_number max_number n ≡ true → max_count ≤ h.count → append m room h n ≡ Err FullRow
+  unfolding append
+  append-full o g legal c = rw (o, g, number-inside max_number n legal, le-leb max_count h.count c) refl
 
 -- ## What it leaves behind
 
 module _ (m : ℕ) (before : List ℕ) (h : Header) (n : ℕ) where
-  pub append-refused : (r : Refusal) → append m (length before) h n ≡ refused r → before ≡ append_into m before h n
+  pub append-refused : (r : Refusal) → append m (length before) h n ≡ Err r → before ≡ append_into m before h n
   unfolding append_into
   append-refused r e = rw e refl
 
-  pub append-put : (x : ℕ × Header) → append m (length before) h n ≡ accepted x → (after : List ℕ) → Bytes before → Bytes after
+  pub append-put : (x : ℕ × Header) → append m (length before) h n ≡ Ok x → (after : List ℕ) → Bytes before → Bytes after
       → unpack after ≡ put_at h.bits (codeword m n) (unpack before) → after ≡ append_into m before h n
   unfolding append_into
   append-put x e after hb ha u =

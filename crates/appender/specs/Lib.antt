@@ -1,2 +1,1 @@
 pub mod Appending
-pub mod Leaves

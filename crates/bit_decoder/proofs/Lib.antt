@@ -1,1 +1,2 @@
+pub mod Ones
 pub mod Seeking

@@ -1,19 +1,20 @@
 -- Bits replaced by others: what is to be moved makes them, and the bytes of the buffer then.
-use mathlib.Core.Path.{◌≡◌, refl, sym, ap, ap₂, ◌∙◌}
+use mathlib.Core.Path.{◌≡◌, sym, ap, ap₂, ◌∙◌}
 use mathlib.Core.Bool.{Bool, false}
 use mathlib.Core.List.{List, ◌++◌, append_assoc, flatten}
-use Prim.Native.Nat.{ℕ, zero, suc, ◌+◌, ◌-◌, ◌*◌, ◌/◌, ◌%◌, ◌^◌, ◌≤◌, ◌<◌}
+use Prim.Native.Nat.{ℕ, suc, ◌+◌, ◌-◌, ◌*◌, ◌/◌, ◌%◌, ◌^◌, ◌≤◌, ◌<◌}
 use native.Mathlib.Omega.{arith}
 use native.Mathlib.Nat.{add-zero}
 use lib.ListN.{length, get_or, take, drop, replicate, length-append, length-drop, replicate-append-replicate}
 use lib.Seq.{take-take, take-add, drop_at, drop-drop, drop-cons, length-take-le, get_or-take, get_or-drop, take-append-le, drop-append-le}
 use Rattle.bits.specs.Bits.{Bytes, word_bits, unpack, byte_count, pack, padding}
 use Rattle.bits.specs.Leaves.{fit}
-use Rattle.bits.proofs.Words.{words-length, words-split, words-mod, words-zero}
+use Rattle.bits.proofs.Words.{words-length, words-split, words-mod}
 use Rattle.bits.proofs.Bytes.{unpack-append, unpack-take, unpack-drop, first-bits}
 use Rattle.bits.proofs.Fit.{fit-long, fit-zeros}
 use Rattle.bits.proofs.Packing.{unpack-pack, pack-length, pack-bytes, bytes-append, bytes_drop, unpack-apart}
-use Rattle.bit_moves.specs.Leaves.{splice, stream, Moved}
+use Rattle.bit_moves.specs.Splices.{splice, stream, Moved}
+use Rattle.bit_moves.proofs.Words.{unpack-zeros, zeros-bytes}
 
 -- ## What is to be moved
 
@@ -35,11 +36,9 @@ byte-end s from p h i k z =
     ∙ drop_at (word_bits (8 - p) (b / 2 ^ p)) (word_bits p b ++ unpack (drop (suc q) s)) (8 - p) (words-length (8 - p) (b / 2 ^ p))
     ∙ ap (λ (n : ℕ). word_bits p b ++ unpack (drop n s)) (sym next)
 
-module _ (s : List ℕ) (used at old : ℕ) (new : List Bool) (room : used ≤ length s) (some : 1 ≤ old) (in_use : at + old ≤ 8 * used) where
-  -- the first byte that is read whole, and how many bits before it stay
-  abbrev pub whole : ℕ
-  whole = (at + old + 7) / 8
-
+module _ (s : List ℕ) (used at old : ℕ) (new : List Bool) (room : used ≤ length s) (some : 1 ≤ old) (in_use : at + old ≤ 8 * used)
+    (whole : ℕ) (up : at + old ≤ 8 * whole) (down : 8 * whole < at + old + 8) where
+  -- how many bits stay before byte `whole`, the first that is read whole
   abbrev pub others : ℕ
   others = 8 * whole - (at + old)
 
@@ -106,18 +105,6 @@ splice-length at old new b h =
       length-take-le at b (omega arith),
       length-drop (at + old) b,
     )
-
-unpack-zeros : (n : ℕ) → unpack (replicate n 0) ≡ replicate (8 * n) false
-unfolding unpack flatten
-unpack-zeros zero = refl
-unpack-zeros (suc n) =
-    let e : 8 + 8 * n ≡ 8 * suc n = omega arith in
-    ap₂ (λ (u v : List Bool). u ++ v) (words-zero 8) (unpack-zeros n) ∙ replicate-append-replicate 8 (8 * n) false ∙ ap (λ (k : ℕ). replicate k false) e
-
-zeros-bytes : (n : ℕ) → Bytes (replicate n 0)
-zeros-bytes zero i = omega arith
-zeros-bytes (suc n) zero = omega arith
-zeros-bytes (suc n) (suc i) = zeros-bytes n i
 
 -- the bits b in use are followed by zeros, and what comes of them fits: its packing, bytes of zeros up to byte `end`, and the bytes after it
 pub splice-packed : (s ys : List ℕ) (used end at old k : ℕ) (new b : List Bool) → at + old ≤ length b → unpack (take used s) ≡ b ++ replicate k false

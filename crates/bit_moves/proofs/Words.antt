@@ -1,30 +1,27 @@
 -- Words made of others' bits, and read from bytes that may end before them.
-use mathlib.Core.Path.{◌≡◌, sym, ap, ap₂, subst, ◌∙◌}
-use mathlib.Core.Bool.{Bool}
-use mathlib.Core.List.{List, ◌++◌, append_assoc, append-nil, flatten}
-use Prim.Native.Nat.{ℕ, suc, ◌+◌, ◌-◌, ◌*◌, ◌/◌, ◌%◌, ◌^◌, ◌≤◌, ◌<◌}
+use mathlib.Core.Path.{◌≡◌, refl, sym, ap, ap₂, subst, ◌∙◌}
+use mathlib.Core.Bool.{Bool, false}
+use mathlib.Core.List.{List, ◌++◌, append_assoc, flatten}
+use Prim.Native.Nat.{ℕ, zero, suc, min, ◌+◌, ◌-◌, ◌*◌, ◌/◌, ◌%◌, ◌^◌, ◌≤◌, ◌<◌}
 use native.Mathlib.Omega.{arith}
 use native.Mathlib.Nat.{mul-div_cancel, mul-mod_left}
-use lib.ListN.{length, get_or, take, drop, length-drop, drop_of_length-le}
-use lib.Seq.{take_at, drop-drop, drop-cons}
+use lib.ListN.{length, take, drop, replicate, length-append, length-drop, length-replicate, drop_of_length-le, replicate-append-replicate}
+use lib.Seq.{take_at, take_all, length-take-le}
+use native.Mathlib.Decide.{dec_le}
+use Rattle.std.proofs.lemmas.List.{drop-replicate}
+use Rattle.bits.proofs.Packing.{bytes-append, bytes_take}
 use lib.Pow.{shl_exact, shr_lt, pow-add, pow_pos}
-use lib.Bits.{bit_and, bit_or, and_mask, or_shifted}
+use lib.Bits.{bit_or, or_shifted}
 use lib.Arith.{digits_lt, mod-mul}
-use Rattle.bits.specs.Bits.{word_bits, unpack}
+use Rattle.std.specs.Int.{w64, from_be_bytes}
+use Rattle.bits.specs.Bits.{Bytes, word_bits, unpack}
 use Rattle.bits.specs.Leaves.{fit}
 use Rattle.bits.proofs.Words.{words-length, words-split, words-mod, words-join, words-zero}
-use Rattle.bits.proofs.Bytes.{unpack-length, unpack-take, unpack-drop}
-use Rattle.bits.proofs.Fit.{fit-nil, fit-add, fit-split, fit-take}
+use Rattle.bits.proofs.Bytes.{unpack-append, unpack-length, unpack-take}
+use Rattle.bits.proofs.Fit.{fit-nil, fit-add, fit-take}
+use Rattle.bits.proofs.Put.{be-bits}
 
 -- ## Shifts
-
-pub masked : (w n : ℕ) → n < 64 → bit_and w (1 * 2 ^ n % 2 ^ 64 - 1) ≡ w % 2 ^ n
-masked w n h =
-    let e : 1 * 2 ^ n ≡ 2 ^ n = omega arith in
-    ap (λ (x : ℕ). bit_and w (x - 1)) (shl_exact {a = 1} 1 n 64 (omega arith) (omega arith) ∙ e) ∙ and_mask w n
-
-pub mask-some : (n : ℕ) → n < 64 → 1 ≤ 1 * 2 ^ n % 2 ^ 64
-mask-some n h = rw (shl_exact {a = 1} 1 n 64 (omega arith) (omega arith)) (omega (arith, pow_pos n))
 
 -- a word shifted up until only its c low bits are left
 shifted-out : (x c d : ℕ) → c + d ≡ 64 → x * 2 ^ d % 2 ^ 64 ≡ (x % 2 ^ c) * 2 ^ d
@@ -72,32 +69,54 @@ words-top n w h =
 
 -- ## Reading
 
--- a byte, and none
-pub byte-read : (s : List ℕ) (j : ℕ) → j < length s → word_bits 8 (get_or s j 0) ≡ fit 8 (unpack (drop j s))
+pub unpack-zeros : (n : ℕ) → unpack (replicate n 0) ≡ replicate (8 * n) false
 unfolding unpack flatten
-byte-read s j h =
-    let e : unpack (drop j s) ≡ word_bits 8 (get_or s j 0) ++ unpack (drop (suc j) s) = ap unpack (drop-cons s j 0 h) in
-    sym (ap (fit 8) e ∙ fit-split 8 (word_bits 8 (get_or s j 0)) (unpack (drop (suc j) s)) (omega (arith, words-length 8 (get_or s j 0)))
-    ∙ ap (λ (k : ℕ). word_bits 8 (get_or s j 0) ++ fit (8 - k) (unpack (drop (suc j) s))) (words-length 8 (get_or s j 0))
-    ∙ unfold fit in append-nil (word_bits 8 (get_or s j 0)))
+unpack-zeros zero = refl
+unpack-zeros (suc n) =
+    let e : 8 + 8 * n ≡ 8 * suc n = omega arith in
+    ap₂ (λ (u v : List Bool). u ++ v) (words-zero 8) (unpack-zeros n) ∙ replicate-append-replicate 8 (8 * n) false ∙ ap (λ (k : ℕ). replicate k false) e
 
-pub byte-none : (s : List ℕ) (j : ℕ) → length s ≤ j → word_bits 8 0 ≡ fit 8 (unpack (drop j s))
-unfolding unpack flatten
-byte-none s j h = words-zero 8 ∙ sym (ap (λ (l : List ℕ). fit 8 (unpack l)) (drop_of_length-le s {i = j} h) ∙ fit-nil 8)
+pub zeros-bytes : (n : ℕ) → Bytes (replicate n 0)
+zeros-bytes zero i = omega arith
+zeros-bytes (suc n) zero = omega arith
+zeros-bytes (suc n) (suc i) = zeros-bytes n i
 
--- a byte more of a word
-module _ (s : List ℕ) (j k w b : ℕ) (few : k < 8) (small : w < 2 ^ (8 * k)) (read : word_bits (8 * k) w ≡ fit (8 * k) (unpack (drop j s)))
-    (byte : (b < 256) × (word_bits 8 b ≡ fit 8 (unpack (drop (j + k) s)))) where
-  pub word_more : (bit_or (w * 2 ^ 8 % 2 ^ 64) b < 2 ^ (8 * (k + 1))) × (word_bits (8 * (k + 1)) (bit_or (w * 2 ^ 8 % 2 ^ 64) b) ≡ fit (8 * (k + 1)) (unpack (drop j s)))
-  word_more =
-      let n : 8 * (k + 1) ≡ 8 * k + 8 = omega arith in
-      let value : bit_or (w * 2 ^ 8 % 2 ^ 64) b ≡ w * 2 ^ 8 + b =
-      ap (λ (x : ℕ). bit_or x b) (shl_exact (8 * k) 8 64 small (omega arith)) ∙ or_shifted w 8 b byte.0 in
-      let next : unpack (drop (j + k) s) ≡ drop (8 * k) (unpack (drop j s)) = ap unpack (sym (drop-drop k j s)) ∙ unpack-drop (drop j s) k in
-      rw (value, n) (
-        rw (pow-add 2 (8 * k) 8) (digits_lt small byte.0),
-        words-join (8 * k) 8 w b byte.0 ∙ ap₂ (λ (u v : List Bool). u ++ v) read (byte.1 ∙ ap (fit 8) next) ∙ sym (fit-add (8 * k) 8 (unpack (drop j s))),
-      )
+-- the first bytes of s, at most eight, and zeros behind them up to eight
+module _ (s : List ℕ) (n : ℕ) (e : n ≡ min (length s) 8) where
+  -- past them, eight bytes are full or s ends
+  zeros-behind : fit (8 * (8 - n)) (drop (8 * n) (unpack s)) ≡ replicate (8 * (8 - n)) false
+  unfolding fit
+  zeros-behind =
+      elim (dec_le 8 (length s)) [
+        | yes h ↦
+            let none : 8 * (8 - n) ≡ 0 = omega arith in
+            ap (λ (k : ℕ). fit k (drop (8 * n) (unpack s))) none ∙ sym (ap (λ (k : ℕ). replicate k false) none)
+        | no h ↦
+            ap (fit (8 * (8 - n))) (drop_of_length-le (unpack s) {i = 8 * n} (omega (arith, unpack-length s))) ∙ fit-nil (8 * (8 - n))
+      ]
+
+  filled-bits : unpack (take n s ++ replicate (8 - n) 0) ≡ fit 64 (unpack s)
+  filled-bits =
+      let k : 8 * n + 8 * (8 - n) ≡ 64 = omega arith in
+      unpack-append (take n s) (replicate (8 - n) 0)
+      ∙ ap₂ (λ (u v : List Bool). u ++ v) (unpack-take s n ∙ sym (fit-take (8 * n) (unpack s) (omega (arith, unpack-length s)))) (unpack-zeros (8 - n) ∙ sym zeros-behind)
+      ∙ sym (fit-add (8 * n) (8 * (8 - n)) (unpack s)) ∙ ap (λ (j : ℕ). fit j (unpack s)) k
+
+  pub word_filled : Bytes s → {x : List ℕ} → x ≡ take n s → {w : ℕ} → w ≡ from_be_bytes w64 (x ++ drop n (replicate 8 0)) → word_bits 64 w ≡ fit 64 (unpack s)
+  word_filled b {x} f {w} q =
+      let all : List ℕ = take n s ++ replicate (8 - n) 0 in
+      let long : length all ≡ 8 = omega (arith, length-append (take n s) (replicate (8 - n) 0), length-take-le n s (omega arith), length-replicate {A = ℕ} (8 - n) 0) in
+      let bytes : Bytes all = bytes-append (take n s) (replicate (8 - n) 0) (bytes_take n s b) (zeros-bytes (8 - n)) in
+      be-bits all long bytes (q ∙ ap (from_be_bytes w64) (ap₂ (λ (u v : List ℕ). u ++ v) f (drop-replicate n 8 0))) ∙ filled-bits
+
+-- from byte j on, or from the end
+pub rest-of : (s : List ℕ) (j i : ℕ) → i ≡ min j (length s) → take (length s - i) (drop i s) ≡ drop j s
+rest-of s j i e =
+    take_all (length s - i) (drop i s) (omega (arith, length-drop i s))
+    ∙ elim (dec_le j (length s)) [
+      | yes h ↦ let same : i ≡ j = omega arith in ap (λ (k : ℕ). drop k s) same
+      | no h ↦ drop_of_length-le s {i = i} (omega arith) ∙ sym (drop_of_length-le s {i = j} (omega arith))
+    ]
 
 -- eight bytes that are there
 pub word_read : (s : List ℕ) (j w : ℕ) → j + 8 ≤ length s → word_bits 64 w ≡ unpack (take 8 (drop j s)) → word_bits 64 w ≡ fit 64 (unpack (drop j s))

@@ -1,1 +1,2 @@
+pub mod Splices
 pub mod Leaves

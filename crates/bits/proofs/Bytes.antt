@@ -97,13 +97,13 @@ set-byte (b ∷ s) (suc q) r y v h i e =
     ap (λ (l : List Bool). word_bits 8 b ++ l) (set-byte s q r y v h (omega arith) e)
     ∙ sym (set-append-add (word_bits 8 b) (unpack s) (8 * q + r) v) ∙ ap (λ (k : ℕ). set (word_bits 8 b ++ unpack s) k v) n
 
-pub bit-set : (s : List ℕ) (k y : ℕ) (v : Bool) → k / 8 < length s → word_bits 8 y ≡ set (word_bits 8 (get_or s (k / 8) 0)) (7 - (7 - bit_and k 7)) v
+pub set_bit_at : (s : List ℕ) (k y : ℕ) (v : Bool) → k / 8 < length s → word_bits 8 y ≡ set (word_bits 8 (get_or s (k / 8) 0)) (7 - (7 - bit_and k 7)) v
     → unpack (set s (k / 8) y) ≡ set (unpack s) k v
-bit-set s k y v h e =
+set_bit_at s k y v h e =
     let n : 7 - (7 - bit_and k 7) ≡ k % 8 = omega (arith, and_mask k 3) in
     let m : 8 * (k / 8) + k % 8 ≡ k = omega arith in
     set-byte s (k / 8) (k % 8) y v (omega arith) h (e ∙ ap (λ (j : ℕ). set (word_bits 8 (get_or s (k / 8) 0)) j v) n)
     ∙ ap (λ (n : ℕ). set (unpack s) n v) m
 
-pub bit-set-past : (s : List ℕ) (k : ℕ) (v : Bool) → length s ≤ k / 8 → set (unpack s) k v ≡ unpack s
-bit-set-past s k v h = set_out (unpack s) k v (omega (arith, unpack-length s))
+pub set_bit_past : (s : List ℕ) (k : ℕ) (v : Bool) → length s ≤ k / 8 → set (unpack s) k v ≡ unpack s
+set_bit_past s k v h = set_out (unpack s) k v (omega (arith, unpack-length s))

@@ -4,18 +4,20 @@ use mathlib.Core.Bool.{Bool, false}
 use mathlib.Core.List.{List, [], ◌∷◌, ◌++◌, append_assoc, append-nil}
 use Prim.Native.Nat.{ℕ, zero, suc, ◌+◌, ◌-◌, ◌*◌, ◌/◌, ◌%◌, ◌^◌, ◌≤◌, ◌<◌}
 use native.Mathlib.Omega.{arith}
-use native.Mathlib.Nat.{zero-add}
+use native.Mathlib.Nat.{add-zero, zero-add, suc-add, div-one, pow-suc}
 use lib.ListN.{length, get_or, take, drop, replicate, length-append, length-replicate, length-drop, replicate-append-replicate, take-append-drop, drop_of_length-le}
-use lib.Seq.{take_at, take_all, take-take, drop_at, drop-drop, length-take-le, take-append_seam, take-append-add, drop-append-add, sets, sets-eq}
+use lib.Seq.{take_at, take_all, take-take, drop_at, drop-drop, drop-cons, length-take-le, take-append_seam, take-append-add, drop-append-add}
 use lib.Pow.{shl_exact, pow-add}
 use lib.Bits.{bit_or, or_shifted}
 use lib.Arith.{digits_lt}
+use Rattle.std.specs.Int.{w64, byte_at, bytes_high_first, from_be_bytes}
+use Rattle.std.proofs.lemmas.Nat.{be_bytes_8}
 use Rattle.bits.specs.Bits.{Bytes, word_bits, unpack, bytes_of, byte_count, pack, padding}
 use Rattle.bits.specs.Leaves.{put_to, put_at, fit}
 use Rattle.bits.proofs.Words.{words-length, words-split, words-join, words-padded}
 use Rattle.bits.proofs.Bytes.{unpack-append, unpack-length, unpack-drop, high-below, top-bits, first-bits}
 use Rattle.bits.proofs.Fit.{fit-long}
-use Rattle.bits.proofs.Packing.{unpack-bytes, unpack-pack, word-of-bits, bytes-append, bytes_drop, pack-bytes, pack-length, unpack-apart}
+use Rattle.bits.proofs.Packing.{unpack-bytes, unpack-pack, word-of-bits, bytes-append, bytes_drop, bytes_take, pack-bytes, pack-length, unpack-apart}
 
 -- ## The bytes of a word
 
@@ -35,33 +37,62 @@ pub word-length : (n w : ℕ) → length (word_bytes n w) ≡ n
 word-length zero w = unfold bytes_of in refl
 word-length (suc n) w = ap length (word-bytes n w) ∙ ap suc (word-length n w)
 
-pub word_byte : (n w i : ℕ) → i < n → get_or (word_bytes n w) i 0 ≡ w / 2 ^ (8 * (n - 1 - i)) % 256
-word_byte zero w i h = absurd (omega arith)
-word_byte (suc n) w zero h =
-    let e : n ≡ suc n - 1 - 0 = omega arith in
-    ap (λ (l : List ℕ). get_or l 0 0) (word-bytes n w) ∙ ap (λ (k : ℕ). w / 2 ^ (8 * k) % 256) e
-word_byte (suc n) w (suc i) h =
-    let e : n - 1 - i ≡ suc n - 1 - suc i = omega arith in
-    ap (λ (l : List ℕ). get_or l (suc i) 0) (word-bytes n w) ∙ word_byte n w i (omega arith) ∙ ap (λ (k : ℕ). w / 2 ^ (8 * k) % 256) e
+-- the library's bytes of a number, the highest first, are these
+byte-of-word : (k w : ℕ) → byte_at k w ≡ w / 2 ^ (8 * k) % 256
+byte-of-word zero w = ap (λ (x : ℕ). x % 256) (sym (div-one w))
+byte-of-word (suc k) w = ap (λ (x : ℕ). w / x % 256) (worth (suc k))
+  where
+    worth : (k : ℕ) → 256 ^ k ≡ 2 ^ (8 * k)
+    worth zero = refl
+    worth (suc k) = let e : 8 * suc k ≡ 8 * k + 8 = omega arith in rw (pow-suc 256 k, worth k, e) (sym (pow-add 2 (8 * k) 8))
 
--- written out, from the highest
-abbrev pub bytes_down : ℕ → ℕ → List ℕ
-bytes_down zero w = []
-bytes_down (suc n) w = (w / 2 ^ (8 * n) % 256) ∷ bytes_down n w
+pub high_bytes : (n w : ℕ) → bytes_high_first n w ≡ word_bytes n w
+high_bytes zero w = unfold bytes_of in refl
+high_bytes (suc n) w = ap₂ (λ (x : ℕ) (l : List ℕ). x ∷ l) (byte-of-word n w) (high_bytes n w) ∙ sym (word-bytes n w)
 
-word-down : (n w : ℕ) → bytes_down n w ≡ word_bytes n w
-word-down zero w = unfold bytes_of in refl
-word-down (suc n) w = ap (λ (l : List ℕ). (w / 2 ^ (8 * n) % 256) ∷ l) (word-down n w) ∙ sym (word-bytes n w)
-
--- stored one by one
-pub word-stored : (s : List ℕ) (w : ℕ) → 8 ≤ length s → sets s 0 (bytes_down 8 w) ≡ word_bytes 8 w ++ drop 8 s
-word-stored s w h = sets-eq (bytes_down 8 w) s 0 h ∙ ap (λ (l : List ℕ). l ++ drop 8 s) (word-down 8 w)
+-- the last n of them
+pub low_bytes : (n w : ℕ) → n ≤ 8 → {l : List ℕ} → l ≡ bytes_high_first 8 w → take (8 - (8 - n)) (drop (8 - n) l) ≡ word_bytes n w
+low_bytes n w h e =
+    let n-bytes : 8 ≡ 8 - n + n = omega arith in
+    ap (λ (l : List ℕ). take (8 - (8 - n)) (drop (8 - n) l)) (e ∙ ap (λ (k : ℕ). bytes_high_first k w) n-bytes) ∙ ap (take (8 - (8 - n))) (last (8 - n) ∙ high_bytes n w)
+    ∙ take_all (8 - (8 - n)) (word_bytes n w) (omega (arith, word-length n w))
+  where
+    last : (k : ℕ) → drop k (bytes_high_first (k + n) w) ≡ bytes_high_first n w
+    last zero = rw zero-add
+    last (suc k) = rw suc-add (last k)
 
 pub unpack-word : (n w : ℕ) → unpack (word_bytes n w) ≡ word_bits (8 * n) w
 unpack-word n w =
     let e : 8 * n ≡ length (word_bits (8 * n) w) + 0 = omega (arith, words-length (8 * n) w) in
     unpack-bytes n (word_bits (8 * n) w) ∙ ap (λ (k : ℕ). fit k (word_bits (8 * n) w)) e ∙ fit-long (word_bits (8 * n) w) 0
     ∙ append-nil (word_bits (8 * n) w)
+
+-- n elements from i + j on
+abbrev elements : List ℕ → ℕ → ℕ → ℕ → List ℕ
+elements s i j zero = []
+elements s i j (suc n) = get_or s (i + j) 0 ∷ elements s i (suc j) n
+
+elements-of : (s : List ℕ) (i j n : ℕ) → i + j + n ≤ length s → take n (drop (i + j) s) ≡ elements s i j n
+elements-of s i j zero h = refl
+elements-of s i j (suc n) h =
+    let e : suc (i + j) ≡ i + suc j = omega arith in
+    ap (take (suc n)) (drop-cons s (i + j) 0 (omega arith))
+    ∙ ap (λ (l : List ℕ). get_or s (i + j) 0 ∷ l) (ap (λ (k : ℕ). take n (drop k s)) e ∙ elements-of s i (suc j) n (omega arith))
+
+-- eight bytes read as a word
+pub be-below : (l : List ℕ) → Bytes l → from_be_bytes w64 l < 2 ^ 64
+be-below l b = omega (arith, b 0, b 1, b 2, b 3, b 4, b 5, b 6, b 7)
+
+pub be-bits : (l : List ℕ) → length l ≡ 8 → Bytes l → {w : ℕ} → w ≡ from_be_bytes w64 l → word_bits 64 w ≡ unpack l
+be-bits l n b {w} e = sym (unpack-word 8 w) ∙ ap unpack (sym (high_bytes 8 w) ∙ be_bytes_8 l w n b e)
+
+pub word-read : (s : List ℕ) (i : ℕ) → i + 8 ≤ length s → Bytes s → {w : ℕ} → w ≡ from_be_bytes w64 (get_or s i 0 ∷ elements s i 1 7)
+    → word_bits 64 w ≡ unpack (take 8 (drop i s))
+word-read s i h b e =
+    let these : take 8 (drop i s) ≡ get_or s i 0 ∷ elements s i 1 7 =
+    ap (λ (k : ℕ). take 8 (drop k s)) (sym (add-zero i)) ∙ elements-of s i 0 8 (omega arith) ∙ ap (λ (k : ℕ). get_or s k 0 ∷ elements s i 1 7) (add-zero i) in
+    be-bits (take 8 (drop i s)) (length-take-le 8 (drop i s) (omega (arith, length-drop i s))) (bytes_take 8 (drop i s) (bytes_drop i s b))
+    (e ∙ ap (from_be_bytes w64) (sym these))
 
 -- ## A word after the first bits of a buffer
 
@@ -75,20 +106,18 @@ shifted o len pad kept word hk hw h =
     ap (λ (x : ℕ). x * 2 ^ pad % 2 ^ 64) e ∙ shl_exact (o + len) pad 64 b h
 
 -- put together by shifts: a byte with the word after its first bits
-pub joined-bits : (first o word len width : ℕ)
-    → (o < 8) × (1 ≤ len) × (len ≤ 56) × (word < 2 ^ len) × (8 ≤ width) × (o + len ≤ width) × (width ≤ 64) → {b : ℕ} → (b ≡ first) × (b < 256)
-    → word_bits width (bit_or (b / 2 ^ (8 - o) * 2 ^ len % 2 ^ 64) word * 2 ^ (width - (o + len)) % 2 ^ 64) ≡ put_to o (word_bits len word) width (word_bits 8 first)
+pub joined_bits : (first o word len width : ℕ) → (o < 8) × (8 ≤ width) × (o + len ≤ width) × (width ≤ 64) → word < 2 ^ len → first < 256
+    → word_bits width (bit_or (first / 2 ^ (8 - o) * 2 ^ len % 2 ^ 64) word * 2 ^ (width - (o + len)) % 2 ^ 64) ≡ put_to o (word_bits len word) width (word_bits 8 first)
 unfolding put_to
-joined-bits first o word len width fits {b} (e, h) =
+joined_bits first o word len width fits small byte =
     let pad : ℕ = width - (o + len) in
-    let kept : ℕ = b / 2 ^ (8 - o) in
+    let kept : ℕ = first / 2 ^ (8 - o) in
     let n : width ≡ o + len + pad = omega arith in
     let none : drop width (word_bits 8 first) ≡ [] = drop_of_length-le (word_bits 8 first) {i = width} (omega (arith, words-length 8 first)) in
-    ap (word_bits width) (shifted o len pad kept word (high-below b o (omega arith) h) fits.3 (omega arith))
+    ap (word_bits width) (shifted o len pad kept word (high-below first o (omega arith) byte) small (omega arith))
     ∙ ap (λ (k : ℕ). word_bits k ((kept * 2 ^ len + word) * 2 ^ pad)) n ∙ words-padded (o + len) pad (kept * 2 ^ len + word)
     ∙ ap (λ (l : List Bool). l ++ replicate pad false)
-    (words-join o len kept word fits.3
-    ∙ ap (λ (l : List Bool). l ++ word_bits len word) (ap (λ (x : ℕ). word_bits o (x / 2 ^ (8 - o))) e ∙ top-bits first o (omega arith)))
+    (words-join o len kept word small ∙ ap (λ (l : List Bool). l ++ word_bits len word) (top-bits first o (omega arith)))
     ∙ rw (words-length len word, none) (simp (append_assoc, append-nil))
 
 -- put into the first byte as a word, and stored over the first bytes: put into the buffer
@@ -102,6 +131,13 @@ put-stored s ys o c w new h k i e y =
     ap unpack y ∙ unpack-append (word_bytes c w) (drop c s)
     ∙ ap₂ (λ (u v : List Bool). u ++ v) (unpack-word c w ∙ e) (unpack-drop s c)
     ∙ rw (none, first) (simp (append_assoc, append-nil))
+
+-- the same to the end of the byte that the new bits reach
+pub put-stored-at : (s ys : List ℕ) (o c w len x : ℕ) → o < 8 → 1 ≤ c → 1 ≤ length s → c ≡ byte_count (o + len)
+    → word_bits (8 * c) w ≡ put_to o (word_bits len x) (8 * c) (word_bits 8 (get_or s 0 0)) → ys ≡ word_bytes c w ++ drop c s → unpack ys ≡ put_at o (word_bits len x) (unpack s)
+unfolding put_at
+put-stored-at s ys o c w len x h k i n e y =
+    put-stored s ys o c w (word_bits len x) h k i e y ∙ ap (λ (j : ℕ). put_to o (word_bits len x) (8 * j) (unpack s)) (n ∙ ap (λ (j : ℕ). byte_count (o + j)) (sym (words-length len x)))
 
 -- ## Through a part of the buffer
 

@@ -6,9 +6,11 @@ use Prim.Native.Nat.{ℕ, zero, suc, ◌+◌, ◌-◌, ◌*◌, ◌/◌, ◌%◌
 use native.Mathlib.Omega.{arith}
 use native.Mathlib.Nat.{add-zero, zero-add, suc-add, add_comm, zero-div, two-pow-succ}
 use lib.ListN.{length, get_or, replicate, set, length-set}
-use lib.Seq.{ext_get_or, get_or-set_same, get_or-set_other}
+use lib.Seq.{ext_get_or, get_or-set_same, get_or-set_other, set-set}
 use lib.Pow.{high, low, field, mod-mod-pow, shr-shr, pow_pos, pow-lt}
-use lib.Bits.{bit_and, bit_or, and_mask, and_shr, or_shr, and_step, or_step}
+use lib.Bits.{bit_and, bit_or, and_mask, and_shr, or_shr, and_step, or_step, or_zero_r}
+use Rattle.std.specs.Int.{from_bool}
+use Rattle.std.proofs.lemmas.Nat.{one_shl}
 use native.Mathlib.Decide.{ℕ_discrete}
 use lib.Dec.{eqb, eqb-suc-suc}
 use borrow.Author.Tests.{eq-eqb, ne_eqb}
@@ -151,6 +153,16 @@ words-and-not n x p h =
     words-set n x (bit_and x (2 ^ n - 1 - 2 ^ p)) p false h
     (bit-and x (2 ^ n - 1 - 2 ^ p) p ∙ rw (bit_not n p (2 ^ p) h (pow-lt h), bit-pow p p, eq-eqb p p refl) (and-false (bit_of x p)))
     (λ k i d. bit-and x (2 ^ n - 1 - 2 ^ p) k ∙ rw (bit_not n k (2 ^ p) i (pow-lt h), bit-pow p k, ne_eqb p k d) (and-true (bit_of x k)))
+
+-- the bit p of a byte cleared, and then set to v, as the machine shifts it
+pub words_put : (b p : ℕ) (v : Bool) → p < 8 → {x : ℕ} → x ≡ from_bool v
+    → word_bits 8 (bit_or (bit_and b (255 - 1 * 2 ^ p % 256)) (x * 2 ^ p % 256)) ≡ set (word_bits 8 b) (7 - p) v
+words_put b p false h e =
+    let none : 0 * 2 ^ p % 256 ≡ 0 = omega arith in
+    rw (e, one_shl p 8 h, none, or_zero_r) (words-and-not 8 b p h)
+words_put b p true h e =
+    rw (e, one_shl p 8 h)
+    (words-or 8 (bit_and b (255 - 2 ^ p)) p h ∙ rw (words-and-not 8 b p h) (set-set (word_bits 8 b) (7 - p) false true))
 
 -- ## Two words, one after the other
 

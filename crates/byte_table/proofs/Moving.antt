@@ -2,33 +2,45 @@
 use mathlib.Core.Path.{◌≡◌, refl, ap, ◌∙◌}
 use mathlib.Core.Bool.{Bool, true, false}
 use mathlib.Core.List.{List, [], ◌∷◌}
-use Prim.Native.Nat.{ℕ, zero, suc, ◌+◌, ◌≤◌, ◌<◌}
+use Prim.Native.Nat.{ℕ, zero, suc, ◌+◌, ◌-◌, ◌*◌, ◌^◌, ◌≤◌, ◌<◌}
+use native.Mathlib.Numerals.{add-one, add-two}
 use native.Mathlib.Omega.{arith}
 use native.Mathlib.Nat.{mul-add, add-mul, mul-zero, zero-add}
 use lib.ListN.{get_or}
 use borrow.Author.Tests.{leb-true}
+use Rattle.std.proofs.lemmas.Nat.{mul-lt}
+use Rattle.lists.specs.Lists.{values_from}
 use Rattle.lists.proofs.Lists.{values-at}
 use Rattle.fibonacci.specs.Code.{past, F, value}
-use Rattle.calls.specs.Limits.{max_number}
-use Rattle.fibonacci.specs.Leaves.{number_or_zero}
 use Rattle.fibonacci.proofs.Numeration.{sum_down, F-suc, sum_down-suc, sum_down-zero, sum_down-none, F-rises}
-use Rattle.fibonacci.proofs.Lookup.{number-kept}
-use Rattle.byte_table.specs.Leaves.{two_back, position_words, moved, value0, value1, value2}
+use Rattle.byte_table.specs.declared.tables.TheConstants.{POSITIONS_FROM_MINUS_TWO}
+use Rattle.byte_table.specs.Leaves.{two_back, moved, value0, value1, value2}
 
 -- ## The table of position values
 
--- as far as the table goes they are small
-back-small : (n : ℕ) → n < 40 → two_back n ≤ max_number
+back-tested : POSITIONS_FROM_MINUS_TWO ≡ values_from two_back 0 40
+unfolding two_back F past
+back-tested = refl
+
+position-at : (n : ℕ) → n < 40 → get_or POSITIONS_FROM_MINUS_TWO n 0 ≡ two_back n
+position-at n h = ap (λ (l : List ℕ). get_or l n 0) back-tested ∙ values-at two_back 0 40 n 0 h ∙ ap two_back (zero-add n)
+
+-- which are small
+back-small : (n : ℕ) → n < 40 → two_back n < 2 ^ 32
 unfolding two_back
 back-small zero h = omega arith
 back-small (suc zero) h = omega arith
 back-small (suc (suc n)) h =
-    let last : F 3 37 ≤ max_number = unfold F past in leb-true (F 3 37) max_number refl in
+    let last : F 3 37 ≤ 2 ^ 32 - 1 = unfold F past in leb-true (F 3 37) (2 ^ 32 - 1) refl in
     omega (arith, F-rises 3 (omega arith) {j = n} {k = 37} (omega arith), last)
 
-pub position_at : (n : ℕ) → n < 40 → get_or position_words n 0 ≡ two_back n
-unfolding position_words
-position_at n h = values-at (λ n. number_or_zero (two_back n)) 0 40 n 0 h ∙ ap (λ (n : ℕ). number_or_zero (two_back n)) (zero-add n) ∙ number-kept (two_back n) (back-small n h)
+pub times-is : (n v : ℕ) → n < 40 → v < 512 → (get_or POSITIONS_FROM_MINUS_TWO n 0 * v ≡ two_back n * v) × (get_or POSITIONS_FROM_MINUS_TWO n 0 * v < 2 ^ 41)
+times-is n v h l = rw (position-at n h) (refl, mul-lt (two_back n) v (2 ^ 32) 512 (back-small n h) l)
+
+-- as the code has them
+pub moved_by : (l a b c : ℕ) → two_back (l + 2) * a + two_back (l + 1) * b + two_back l * c ≡ moved l a b c
+unfolding moved two_back
+moved_by l a b c = rw (add-two, add-one) refl
 
 -- ## One position value
 

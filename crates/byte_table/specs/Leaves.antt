@@ -1,12 +1,10 @@
 -- The table of the table decoder (paper 01: the byte reader; source 001, section 3.3.2): 768 rows, one for each byte after 0, 1 or 2 trailing ones. A row
 -- follows from the parse of those ones and the byte's bits, by the code of order 3.
 use Rattle.std.specs.Prelude.{◌≡◌, Bool, true, false, List, [], ◌∷◌, ◌++◌, map, ℕ, zero, suc, ◌+◌, ◌-◌, ◌*◌, ◌/◌, ◌%◌, ◌^◌, ◌≤◌, ◌<◌, length, get_or, take, drop}
-use Rattle.lists.specs.Lists.{values_from}
 use Rattle.bits.specs.Bits.{word_bits}
 use Rattle.codes.specs.Parse.{Parse, parsed, codewords, rest}
 use Rattle.fibonacci.specs.Code.{F, ones, value, number}
 use Rattle.fibonacci.specs.Encoding.{parse}
-use Rattle.fibonacci.specs.Leaves.{number_or_zero}
 use Rattle.byte_table.specs.declared.Rest.{Rest}
 use Rattle.byte_table.specs.declared.Row.{Row}
 
@@ -95,9 +93,9 @@ unfoldable pub row_at : ℕ → Row
 unfolding parse_byte row_of_parse
 row_at i = row_of_parse (parse_byte (i / 256) (i % 256))
 
--- ## How two words hold a row
+-- ## What the functions answer and need
 
--- Each value fits its field of the words
+-- Each value of a row fits its field of the two words that hold it
 pub record Small (r : Row) : Type 0 where
   pub count : r.count ≤ 3
   pub len : r.len < 16
@@ -110,32 +108,10 @@ pub record Small (r : Row) : Type 0 where
   pub rest_value : r.rest.value < 2 ^ 18
   pub rest_ones : r.rest.ones < 4
 
--- What finishes the pending codeword, and what lies inside the byte and remains
-abbrev pub head_word : Row → ℕ
-head_word r = r.count + 4 * r.len + 64 * r.coef0 + 32768 * r.coef1 + 8388608 * r.coef2
-
-abbrev pub tail_word : Row → ℕ
-tail_word r = r.second + 16 * r.third + 256 * r.rest.ones + 1024 * r.rest.len + 16384 * r.rest.value
-
--- The constants: the words of all rows, and F(-2), F(-1), F(0), ..
-unfoldable pub head_words : List ℕ
-unfolding row_at
-head_words = values_from (λ i. head_word (row_at i)) 0 768
-
-unfoldable pub tail_words : List ℕ
-unfolding row_at
-tail_words = values_from (λ i. tail_word (row_at i)) 0 768
-
-unfoldable pub position_words : List ℕ
-unfolding two_back
-position_words = values_from (λ n. number_or_zero (two_back n)) 0 40
-
--- ## What the functions answer and need
-
 -- A row that was looked up
 abbrev pub IsRow : ℕ → Row → Type 0
 IsRow i r = (r ≡ row_at i) × Small r
 
--- What it takes to move a row's values: the position values, a length that they reach to, and values as small as a row's
-abbrev pub Movable : List ℕ → ℕ → ℕ → ℕ → ℕ → Type 0
-Movable positions len coef0 coef1 coef2 = (positions ≡ position_words) × (len < 38) × (coef0 < 512) × (coef1 < 512) × (coef2 < 512)
+-- What it takes to move a row's values: a length that the position values reach to, and values as small as a row's
+abbrev pub Movable : ℕ → Row → Type 0
+Movable len r = (len < 38) × (r.coef0 < 512) × (r.coef1 < 512) × (r.coef2 < 512)

@@ -12,8 +12,9 @@ use Rattle.lists.proofs.Lists.{drop-next}
 use borrow.Author.Tests.{le-leb, lt-leb, leb-true, le-ltb, ltb-false, ne_eqb, eqb-false}
 use Rattle.lists.specs.Lists.{All}
 use Rattle.calls.specs.declared.Refusal.{Refusal}
-use Rattle.calls.specs.Calls.{Outcome, accepted, refused, check, and_then}
+use Rattle.calls.specs.Calls.{Outcome, check, and_then}
 use Rattle.calls.specs.Limits.{within, is_order, Order, is_number, Legal, is_outside, check_each}
+use Rattle.std.specs.Prelude.{Ok, Err}
 
 -- ## One number
 
@@ -87,28 +88,28 @@ legal-at limit (n ∷ row) (suc i) a h = legal-at limit row i a.1 (omega arith)
 
 -- ## Chains of checks
 
-pub not-both : {A : Type 0} {r : Refusal} {x : A} → refused r ≡ accepted x → ⊥
+pub not-both : {A : Type 0} {r : Refusal} {x : A} → ◌≡◌ {A = Outcome A} (Err r) (Ok x) → ⊥
 not-both e = let z : ◌≡◌ {A = ℕ} 0 1 = cc in omega arith
 
-pub accepted-one : {A : Type 0} {x y : A} → accepted x ≡ accepted y → x ≡ y
+pub accepted-one : {A : Type 0} {x y : A} → ◌≡◌ {A = Outcome A} (Ok x) (Ok y) → x ≡ y
 accepted-one e = cc
 
-pub refused-one : {A : Type 0} {r q : Refusal} → ◌≡◌ {A = Outcome A} (refused r) (refused q) → r ≡ q
+pub refused-one : {A : Type 0} {r q : Refusal} → ◌≡◌ {A = Outcome A} (Err r) (Err q) → r ≡ q
 refused-one e = cc
 
-pub refused-same : {A B : Type 0} {r q : Refusal} → ◌≡◌ {A = Outcome A} (refused r) (refused q) → ◌≡◌ {A = Outcome B} (refused r) (refused q)
+pub refused-same : {A B : Type 0} {r q : Refusal} → ◌≡◌ {A = Outcome A} (Err r) (Err q) → ◌≡◌ {A = Outcome B} (Err r) (Err q)
 refused-same {r = r} {q = q} e = let a : r ≡ q = refused-one e in cc
 
 -- what a chain of checks accepts has passed its first
-pub check-passed : {A : Type 0} (r : Refusal) (t : Bool) (next : Outcome A) (x : A) → check r t next ≡ accepted x → (t ≡ false) × (next ≡ accepted x)
+pub check-passed : {A : Type 0} (r : Refusal) (t : Bool) (next : Outcome A) (x : A) → check r t next ≡ Ok x → (t ≡ false) × (next ≡ Ok x)
 check-passed r true next x e = absurd (not-both e)
 check-passed r false next x e = (refl, e)
 
 -- what goes on after an accepted part has that part
-pub then-passed : {A B : Type 0} (d : Outcome A) (next : A → Outcome B) (x : B) → and_then d next ≡ accepted x
-    → (y : A) × (d ≡ accepted y) × (next y ≡ accepted x)
-then-passed (accepted y) next x e = (y, refl, e)
-then-passed (refused r) next x e = absurd (not-both e)
+pub then-passed : {A B : Type 0} (d : Outcome A) (next : A → Outcome B) (x : B) → and_then d next ≡ Ok x
+    → (y : A) × (d ≡ Ok y) × (next y ≡ Ok x)
+then-passed (Ok y) next x e = (y, refl, e)
+then-passed (Err r) next x e = absurd (not-both e)
 
 -- what comes after a check, or after a part, may be put into it
 pub check-then : {A B : Type 0} (r : Refusal) (t : Bool) (d : Outcome A) (next : A → Outcome B) → and_then (check r t d) next ≡ check r t (and_then d next)
@@ -116,31 +117,31 @@ check-then r true d next = refl
 check-then r false d next = refl
 
 pub then-then : {A B C : Type 0} (d : Outcome A) (f : A → Outcome B) (next : B → Outcome C) → and_then (and_then d f) next ≡ and_then d (λ x. and_then (f x) next)
-then-then (accepted x) f next = refl
-then-then (refused r) f next = refl
+then-then (Ok x) f next = refl
+then-then (Err r) f next = refl
 
 -- two chains that begin with the same part answer alike where what comes after does
 pub then_same : {A B : Type 0} (d : Outcome A) (f g : A → Outcome B) → ((x : A) → f x ≡ g x) → and_then d f ≡ and_then d g
-then_same (accepted x) f g h = h x
-then_same (refused r) f g h = refl
+then_same (Ok x) f g h = h x
+then_same (Err r) f g h = refl
 
 -- two chains that begin with the same check refuse alike where what comes after does
-either : {A B : Type 0} (r : Refusal) (t : Bool) (x : Outcome A) (y : Outcome B) (q : Refusal) → (x ≡ refused q → y ≡ refused q)
-    → check r t x ≡ refused q → check r t y ≡ refused q
+either : {A B : Type 0} (r : Refusal) (t : Bool) (x : Outcome A) (y : Outcome B) (q : Refusal) → (x ≡ Err q → y ≡ Err q)
+    → check r t x ≡ Err q → check r t y ≡ Err q
 either r true x y q go e = refused-same e
 either r false x y q go e = go e
 
 -- ## A part of a call that tells something of what the definition accepts
 
 -- what was told of an accepted part is known of it
-pub told-accepted : {A B : Type 0} (d : Outcome A) (f : A → B) (y : B) → accepted y ≡ and_then d (λ x. accepted (f x)) → (x : A) × (d ≡ accepted x) × (y ≡ f x)
-told-accepted (accepted x) f y e = (x, refl, accepted-one e)
-told-accepted (refused r) f y e = absurd (not-both (sym e))
+pub told-accepted : {A B : Type 0} (d : Outcome A) (f : A → B) (y : B) → Ok y ≡ and_then d (λ x. Ok (f x)) → (x : A) × (d ≡ Ok x) × (y ≡ f x)
+told-accepted (Ok x) f y e = (x, refl, accepted-one e)
+told-accepted (Err r) f y e = absurd (not-both (sym e))
 
 -- and a refusal is that of the part
-pub told-refused : {A B : Type 0} (d : Outcome A) (f : A → B) (r : Refusal) → refused r ≡ and_then d (λ x. accepted (f x)) → d ≡ refused r
-told-refused (accepted x) f r e = absurd (not-both e)
-told-refused (refused q) f r e = sym (refused-same e)
+pub told-refused : {A B : Type 0} (d : Outcome A) (f : A → B) (r : Refusal) → Err r ≡ and_then d (λ x. Ok (f x)) → d ≡ Err r
+told-refused (Ok x) f r e = absurd (not-both e)
+told-refused (Err q) f r e = sym (refused-same e)
 
 -- ## Each number of a row
 
@@ -151,7 +152,7 @@ each-passed fault limit place [] next a = refl
 each-passed fault limit place (n ∷ row) next a = rw (number-inside limit n a.0) (each-passed fault limit (suc place) row next a.1)
 
 pub each-accepted : {A : Type 0} (fault : ℕ → Refusal) (limit place : ℕ) (row : List ℕ) (next : Outcome A) (x : A)
-    → check_each fault limit place row next ≡ accepted x → Legal limit row × (next ≡ accepted x)
+    → check_each fault limit place row next ≡ Ok x → Legal limit row × (next ≡ Ok x)
 unfolding check_each
 each-accepted fault limit place [] next x e = (tt, e)
 each-accepted fault limit place (n ∷ row) next x e =
@@ -161,7 +162,7 @@ each-accepted fault limit place (n ∷ row) next x e =
 
 -- a refusal does not hang on what comes after
 pub each-refused : {A B : Type 0} (fault : ℕ → Refusal) (limit place : ℕ) (row : List ℕ) (x : A) (r : Refusal) (next : Outcome B)
-    → check_each fault limit place row (accepted x) ≡ refused r → check_each fault limit place row next ≡ refused r
+    → check_each fault limit place row (Ok x) ≡ Err r → check_each fault limit place row next ≡ Err r
 unfolding check_each
 each-refused fault limit place [] x r next e = absurd (not-both (sym e))
 each-refused fault limit place (n ∷ row) x r next e =
@@ -177,6 +178,6 @@ module _ (fault : ℕ → Refusal) (limit : ℕ) (row : List ℕ) (i n : ℕ) (h
   unfolding check_each
   each_more next q = rw (left, number-inside limit n q, add-one)
 
-  pub each-fault : {A : Type 0} (next : Outcome A) → is_number limit n ≡ false → check_each fault limit i (drop i row) next ≡ refused (fault i)
+  pub each-fault : {A : Type 0} (next : Outcome A) → is_number limit n ≡ false → check_each fault limit i (drop i row) next ≡ Err (fault i)
   unfolding check_each
   each-fault next q = rw (left, number-outside limit n q)

@@ -10,19 +10,18 @@ use borrow.Author.Tests.{lt-ltb, le-ltb, ltb-false, not-false}
 use Rattle.lists.specs.Lists.{All}
 use Rattle.calls.specs.declared.Refusal.{Refusal}
 use Rattle.calls.specs.declared.Refusal.TheVariants.{TooManyBytes, TooManyCodewords, NoRoom, TooLarge}
-use Rattle.calls.specs.declared.CountAnswer.{CountAnswer}
-use Rattle.calls.specs.declared.CountAnswer.TheVariants.{Count, Refused}
-use Rattle.calls.specs.Calls.{Outcome, accepted, refused, answer_results, check, and_then, buffer, count_outcome}
+use Rattle.calls.specs.Calls.{Outcome, check, and_then, buffer}
 use Rattle.calls.specs.Limits.{Legal, max_count}
 use Rattle.calls.specs.Reading.{Code, contents, decode, counted}
-use Rattle.calls.specs.Leaves.{counting, Begins, Scanned, Holds, delivered, Delivers}
-use Rattle.calls.proofs.Checks.{not-both, accepted-one, check-passed, then-passed}
+use Rattle.calls.specs.Leaves.{Scanned}
+use Rattle.calls.proofs.Checks.{not-both, accepted-one, refused-same, check-passed, then-passed}
 use Rattle.calls.proofs.Finished.{finished-all, finished-many, finished-large, finished-past, finished-passed}
+use Rattle.std.specs.Prelude.{Ok, Err}
 
 -- ## The check of the length
 
 module _ (c : Code) (limit : ℕ) (s : List ℕ) where
-  pub decode-long : c.byte_limit < length s → decode c limit s ≡ refused TooManyBytes
+  pub decode-long : c.byte_limit < length s → decode c limit s ≡ Err TooManyBytes
   unfolding decode
   decode-long h = simp (lt-ltb c.byte_limit (length s) h)
 
@@ -34,21 +33,21 @@ module _ (c : Code) (limit : ℕ) (s : List ℕ) where
 
 -- The numbers `done` have passed their checks, and what comes after them decides
 module _ (c : Code) (limit : ℕ) (s done : List ℕ) (legal : Legal limit done) where
-  pub contents-many : (x : ℕ) (more : List ℕ) → c.numbers s ≡ done ++ (x ∷ more) → length done ≡ max_count → contents c limit s ≡ refused TooManyCodewords
+  pub contents-many : (x : ℕ) (more : List ℕ) → c.numbers s ≡ done ++ (x ∷ more) → length done ≡ max_count → contents c limit s ≡ Err TooManyCodewords
   unfolding contents
   contents-many x more e l = rw e (finished-many limit done legal _ x more l)
 
   pub contents-large : (x : ℕ) (more : List ℕ) → c.numbers s ≡ done ++ (x ∷ more) → length done < max_count → limit < x
-      → contents c limit s ≡ refused (TooLarge (length done))
+      → contents c limit s ≡ Err (TooLarge (length done))
   unfolding contents
   contents-large x more e l n = rw e (finished-large limit done legal _ x more l n)
 
-  pub contents-past : (more : List ℕ) → c.numbers s ≡ done ++ more → max_count < length done → contents c limit s ≡ refused TooManyCodewords
+  pub contents-past : (more : List ℕ) → c.numbers s ≡ done ++ more → max_count < length done → contents c limit s ≡ Err TooManyCodewords
   unfolding contents
   contents-past more e l = rw e (finished-past limit 0 done more _ legal (omega arith) (omega arith))
 
   -- no codeword is left, and what remains decides
-  pub contents-end : c.numbers s ≡ done → length done ≤ max_count → contents c limit s ≡ check c.fault (c.unfinished s) (accepted done)
+  pub contents-end : c.numbers s ≡ done → length done ≤ max_count → contents c limit s ≡ check c.fault (c.unfinished s) (Ok done)
   unfolding contents
   contents-end e l = rw e (finished-all limit done _ legal l)
 
@@ -63,7 +62,7 @@ pub record Decoded (c : Code) (limit : ℕ) (s row : List ℕ) : Type 0 where
 
 module _ (c : Code) (limit : ℕ) (s row : List ℕ) where
   -- a code's numbers are from 1 up
-  pub decode_is : All (λ n. 1 ≤ n) (c.numbers s) → decode c limit s ≡ accepted row → Decoded c limit s row
+  pub decode_is : All (λ n. 1 ≤ n) (c.numbers s) → decode c limit s ≡ Ok row → Decoded c limit s row
   unfolding decode contents
   decode_is positive e =
       let p2 = check-passed TooManyBytes (ltb c.byte_limit (length s)) _ row e in
@@ -78,43 +77,24 @@ module _ (c : Code) (limit : ℕ) (s row : List ℕ) where
         finished = p6.0;
       }
 
-  pub decode-accepts : Decoded c limit s row → decode c limit s ≡ accepted row
+  pub decode-accepts : Decoded c limit s row → decode c limit s ≡ Ok row
   decode-accepts d =
       decode-contents c limit s d.bytes ∙ contents-end c limit s row d.legal (sym d.is) d.long
-      ∙ ap (λ (t : Bool). check c.fault t (accepted row)) d.finished
+      ∙ ap (λ (t : Bool). check c.fault t (Ok row)) d.finished
 
 -- ## The row and the output
 
--- a list that begins with the row has room for it
-pub holds_row : (d : Outcome (List ℕ)) (list : List ℕ) (a : CountAnswer) → Scanned d a list → Holds a (length list)
-holds_row (accepted row) list (Count n) s = omega (arith, accepted-one s.0, ap length s.1, length-take (length row) list)
-holds_row (refused r) list (Count n) s = absurd (not-both (sym s.0))
-holds_row d list (Refused r) s = tt
+-- What a scan has stored, where it accepts: a list that begins with the row has room for it
+pub stored_row : (d : Outcome (List ℕ)) (list : List ℕ) (n : ℕ) → Scanned d (Ok n) list → (d ≡ Ok (take n list)) × (n ≡ length (take n list)) × (n ≤ length list)
+stored_row (Ok row) list n s =
+    let e : n ≡ length row = accepted-one s.0 in
+    rw (e, s.1) (refl, refl, omega (arith, ap length s.1, length-take (length row) list))
+stored_row (Err r) list n s = absurd (not-both (sym s.0))
 
-counted-all : (d : Outcome (List ℕ)) (room : ℕ) → delivered (counting d) room ≡ and_then d (counted room)
-counted-all (accepted row) room = refl
-counted-all (refused r) room = refl
-
-written : (t : Bool) (row list before : List ℕ) → take (length row) list ≡ row
-    → let o = check NoRoom t (accepted (length row)) in buffer o (take (answer_results 0 o) list) before ≡ buffer o row before
-written true row list before e = refl
-written false row list before e = rw e refl
-
-written_all : (d : Outcome (List ℕ)) (room : ℕ) (list before ns : List ℕ) → Begins d list → ((row : List ℕ) → d ≡ accepted row → row ≡ ns)
-    → let o = and_then d (counted room) in buffer o (take (answer_results 0 o) list) before ≡ buffer o ns before
-written_all (accepted row) room list before ns b is = rw (← is row refl) (written (ltb room (length row)) row list before b)
-written_all (refused r) room list before ns b is = refl
-
--- a row that a scan stored in a list, delivered, is what reading answers and leaves, where ns is all that the scan can find
-delivered-row : (d : Outcome (List ℕ)) (ns before list after : List ℕ) (scanned a : CountAnswer) → ((row : List ℕ) → d ≡ accepted row → row ≡ ns)
-    → Scanned d scanned list → Delivers scanned list before a after
-    → let o = and_then d (counted (length before)) in (count_outcome a ≡ o) × (after ≡ buffer o ns before)
-delivered-row d ns before list after scanned a is f w =
-    let same : count_outcome a ≡ and_then d (counted (length before)) =
-    w.0 ∙ ap (λ (x : Outcome ℕ). delivered x (length before)) f.0 ∙ counted-all d (length before) in (
-      same,
-      w.1 ∙ ap (λ (x : Outcome ℕ). buffer x (take (answer_results 0 x) list) before) same ∙ written_all d (length before) list before ns f.1 is,
-    )
+-- .. and a refusal is that of the scan
+pub scan-refused : (d : Outcome (List ℕ)) (list : List ℕ) (r : Refusal) → Scanned d (Err r) list → d ≡ Err r
+scan-refused (Ok row) list r s = absurd (not-both s.0)
+scan-refused (Err q) list r s = sym (refused-same s.0)
 
 -- ## A call that checks what it was asked for, and reads
 
@@ -126,8 +106,8 @@ module _ (r : Refusal) (good : Bool) (c : Code) (limit : ℕ) (s : List ℕ) whe
   abbrev leaves : List ℕ → List ℕ
   leaves before = buffer (called (length before)) (c.numbers s) before
 
-  pub called_is : (room n : ℕ) → called room ≡ accepted n
-      → (good ≡ true) × ((row : List ℕ) × (decode c limit s ≡ accepted row) × (n ≡ length row) × (length row ≤ room))
+  pub called_is : (room n : ℕ) → called room ≡ Ok n
+      → (good ≡ true) × ((row : List ℕ) × (decode c limit s ≡ Ok row) × (n ≡ length row) × (length row ≤ room))
   called_is room n e =
       let p = check-passed r (not good) _ n e in
       let t = then-passed (decode c limit s) (counted room) n p.1 in
@@ -135,22 +115,29 @@ module _ (r : Refusal) (good : Bool) (c : Code) (limit : ℕ) (s : List ℕ) whe
       (not-false good p.0, (t.0, t.1, sym (accepted-one q.1), ltb-false room (length t.0) q.0))
 
   module _ (before : List ℕ) where
-    pub called-refused : good ≡ false → (refused r ≡ called (length before)) × (before ≡ leaves before)
+    pub called-refused : good ≡ false → (Err r ≡ called (length before)) × (before ≡ leaves before)
     called-refused g = rw g (refl, refl)
 
     module _ (g : good ≡ true) (positive : All (λ n. 1 ≤ n) (c.numbers s)) where
-      pub called-row : (row : List ℕ) → decode c limit s ≡ accepted row → length row ≤ length before
-          → (called (length before) ≡ accepted (length row)) × (leaves before ≡ row ++ drop (length row) before)
+      pub called-row : (row : List ℕ) → decode c limit s ≡ Ok row → length row ≤ length before
+          → (called (length before) ≡ Ok (length row)) × (leaves before ≡ row ++ drop (length row) before)
       called-row row e h =
           rw (g, e, ← (decode_is c limit s row positive e).is) (simp (le-ltb (length before) (length row) h) (refl, refl))
 
-      pub called-delivered : (list after : List ℕ) (scanned a : CountAnswer) → Scanned (decode c limit s) scanned list → Delivers scanned list before a after
-          → (count_outcome a ≡ called (length before)) × (after ≡ leaves before)
-      called-delivered list after scanned a f w =
-          rw g (delivered-row (decode c limit s) (c.numbers s) before list after scanned a (λ row e. (decode_is c limit s row positive e).is) f w)
+      -- a scan's row, delivered, is what reading answers and leaves
+      pub called-delivered : (list after : List ℕ) (n : ℕ) (a : Outcome ℕ) → Scanned (decode c limit s) (Ok n) list
+          → a ≡ counted (length before) (take n list) → after ≡ buffer a (take n list) before → (a ≡ called (length before)) × (after ≡ leaves before)
+      called-delivered list after n a f w x =
+          let d = stored_row _ list n f in
+          let same : a ≡ called (length before) = rw (g, d.0) w in
+          (same, x ∙ ap₂ (λ (o : Outcome ℕ) (row : List ℕ). buffer o row before) same (decode_is c limit s (take n list) positive d.0).is)
+
+      -- .. and so is its refusal
+      pub called-scan : (list : List ℕ) (q : Refusal) → Scanned (decode c limit s) (Err q) list → (Err q ≡ called (length before)) × (before ≡ leaves before)
+      called-scan list q f = rw (g, scan-refused _ list q f) (refl, refl)
 
   -- what is accepted is the numbers of the code, and their count
-  pub called-returns : All (λ n. 1 ≤ n) (c.numbers s) → (before : List ℕ) (n : ℕ) → called (length before) ≡ accepted n
+  pub called-returns : All (λ n. 1 ≤ n) (c.numbers s) → (before : List ℕ) (n : ℕ) → called (length before) ≡ Ok n
       → (n ≡ length (c.numbers s)) × (leaves before ≡ c.numbers s ++ drop n before)
   called-returns positive before n e =
       let i = called_is (length before) n e in

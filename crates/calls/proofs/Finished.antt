@@ -10,11 +10,12 @@ use lib.Dec.{leb, ltb}
 use lib.ListN.{length}
 use borrow.Author.Tests.{le-leb, lt-leb, leb-false, lt-ltb, le-ltb, ltb-false}
 use Rattle.calls.specs.declared.Refusal.TheVariants.{TooManyCodewords, TooLarge}
-use Rattle.calls.specs.Calls.{Outcome, accepted, refused}
+use Rattle.calls.specs.Calls.{Outcome}
 use Rattle.lists.specs.Lists.{All}
 use Rattle.calls.specs.Limits.{is_number, Legal, max_count}
 use Rattle.calls.specs.Reading.{check_finished}
 use Rattle.calls.proofs.Checks.{number_is, is-number, check-passed}
+use Rattle.std.specs.Prelude.{Ok, Err}
 
 -- a legal number is not above the limit
 not-above : (limit n : ℕ) → is_number limit n ≡ true → ltb limit n ≡ false
@@ -50,27 +51,27 @@ unfolding check_finished
 finished-all limit xs next a h =
     ap (λ (ns : List ℕ). check_finished limit 0 ns next) (sym (append-nil xs)) ∙ finished-at limit (length xs) xs [] next a refl h
 
-many : {A : Type 0} (limit i x : ℕ) (xs : List ℕ) (next : Outcome A) → i ≡ max_count → check_finished limit i (x ∷ xs) next ≡ refused TooManyCodewords
+many : {A : Type 0} (limit i x : ℕ) (xs : List ℕ) (next : Outcome A) → i ≡ max_count → check_finished limit i (x ∷ xs) next ≡ Err TooManyCodewords
 unfolding check_finished
 many limit i x xs next h = simp (le-leb max_count i (omega arith))
 
 large : {A : Type 0} (limit i x : ℕ) (xs : List ℕ) (next : Outcome A) → i < max_count → limit < x
-    → check_finished limit i (x ∷ xs) next ≡ refused (TooLarge i)
+    → check_finished limit i (x ∷ xs) next ≡ Err (TooLarge i)
 unfolding check_finished
 large limit i x xs next h e = simp (lt-leb max_count i h, lt-ltb limit x e)
 
 -- The numbers `done` have passed their checks, and the next one decides
 module _ {A : Type 0} (limit : ℕ) (done : List ℕ) (legal : Legal limit done) (next : Outcome A) where
-  pub finished-many : (x : ℕ) (more : List ℕ) → length done ≡ max_count → check_finished limit 0 (done ++ (x ∷ more)) next ≡ refused TooManyCodewords
+  pub finished-many : (x : ℕ) (more : List ℕ) → length done ≡ max_count → check_finished limit 0 (done ++ (x ∷ more)) next ≡ Err TooManyCodewords
   finished-many x more l = finished-at limit max_count done (x ∷ more) next legal l (omega arith) ∙ many limit max_count x more next refl
 
   pub finished-large : (x : ℕ) (more : List ℕ) → length done < max_count → limit < x
-      → check_finished limit 0 (done ++ (x ∷ more)) next ≡ refused (TooLarge (length done))
+      → check_finished limit 0 (done ++ (x ∷ more)) next ≡ Err (TooLarge (length done))
   finished-large x more l n = finished-at limit (length done) done (x ∷ more) next legal refl (omega arith) ∙ large limit (length done) x more next l n
 
 -- numbers that are all legal are too many
 pub finished-past : {A : Type 0} (limit i : ℕ) (xs ys : List ℕ) (next : Outcome A) → Legal limit xs → i ≤ max_count → max_count < i + length xs
-    → check_finished limit i (xs ++ ys) next ≡ refused TooManyCodewords
+    → check_finished limit i (xs ++ ys) next ≡ Err TooManyCodewords
 unfolding check_finished
 finished-past limit i [] ys next a k h = absurd (omega arith)
 finished-past limit i (x ∷ xs) ys next a k h =
@@ -81,7 +82,7 @@ finished-past limit i (x ∷ xs) ys next a k h =
 
 -- what it says that they all passed, where they are from 1 up
 pub finished-passed : {A : Type 0} (limit i : ℕ) (ns : List ℕ) (next : Outcome A) (x : A) → All (λ n. 1 ≤ n) ns → i ≤ max_count
-    → check_finished limit i ns next ≡ accepted x → Legal limit ns × (i + length ns ≤ max_count) × (next ≡ accepted x)
+    → check_finished limit i ns next ≡ Ok x → Legal limit ns × (i + length ns ≤ max_count) × (next ≡ Ok x)
 unfolding check_finished
 finished-passed limit i [] next x a h e = (tt, omega arith, e)
 finished-passed limit i (n ∷ ns) next x a h e =

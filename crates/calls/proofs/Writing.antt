@@ -8,9 +8,10 @@ use lib.ListN.{length}
 use borrow.Author.Tests.{lt-ltb, le-ltb, ltb-false, not-false}
 use Rattle.calls.specs.declared.Refusal.{Refusal}
 use Rattle.calls.specs.declared.Refusal.TheVariants.{BadNumber, TooManyNumbers, NoRoom}
-use Rattle.calls.specs.Calls.{Outcome, accepted, refused, check}
+use Rattle.calls.specs.Calls.{Outcome, check}
 use Rattle.calls.specs.Limits.{Legal, max_count, check_each}
 use Rattle.calls.proofs.Checks.{check-passed, accepted-one, each-passed, each-accepted, each-refused}
+use Rattle.std.specs.Prelude.{Ok, Err}
 
 -- a call that writes a row: its own check and refusal, the largest number, the row's encoding, and what it answers
 pub record Write (A : Type 0) : Type 0 where
@@ -35,9 +36,9 @@ module _ {A : Type 0} (w : Write A) (room : ℕ) where
       (check TooManyNumbers (ltb max_count (length w.row))
       (check_each BadNumber w.limit 0 w.row
       (check NoRoom (ltb room (length w.encoding))
-      (accepted w.answer))))
+      (Ok w.answer))))
 
-  pub written_is : (x : A) → written ≡ accepted x → Writable × (x ≡ w.answer)
+  pub written_is : (x : A) → written ≡ Ok x → Writable × (x ≡ w.answer)
   written_is x e =
       let p = check-passed w.fault (not w.good) _ _ e in
       let p4 = check-passed TooManyNumbers (ltb max_count (length w.row)) _ _ p.1 in
@@ -52,7 +53,7 @@ module _ {A : Type 0} (w : Write A) (room : ℕ) where
         sym (accepted-one p5.1),
       )
 
-  pub written-accepts : Writable → written ≡ accepted w.answer
+  pub written-accepts : Writable → written ≡ Ok w.answer
   written-accepts a =
       rw (
         a.asked,
@@ -63,17 +64,17 @@ module _ {A : Type 0} (w : Write A) (room : ℕ) where
 
   -- ## What is refused, check by check
 
-  pub written-asked : w.good ≡ false → refused w.fault ≡ written
+  pub written-asked : w.good ≡ false → Err w.fault ≡ written
   written-asked g = rw g refl
 
   module _ (g : w.good ≡ true) where
-    pub written_count : max_count < length w.row → refused TooManyNumbers ≡ written
+    pub written_count : max_count < length w.row → Err TooManyNumbers ≡ written
     written_count h = rw (g, lt-ltb max_count (length w.row) h) refl
 
     module _ (l : length w.row ≤ max_count) where
-      pub written-number : {B : Type 0} (x : B) (r : Refusal) → refused r ≡ check_each BadNumber w.limit 0 w.row (accepted x) → refused r ≡ written
+      pub written-number : {B : Type 0} (x : B) (r : Refusal) → Err r ≡ check_each BadNumber w.limit 0 w.row (Ok x) → Err r ≡ written
       written-number x r e = rw (g, le-ltb max_count (length w.row) l) (sym (each-refused BadNumber w.limit 0 w.row x r _ (sym e)))
 
-      pub written-room : Legal w.limit w.row → room < length w.encoding → refused NoRoom ≡ written
+      pub written-room : Legal w.limit w.row → room < length w.encoding → Err NoRoom ≡ written
       written-room a h =
           rw (g, le-ltb max_count (length w.row) l, each-passed BadNumber w.limit 0 w.row _ a, lt-ltb room (length w.encoding) h) refl

@@ -1,8 +1,8 @@
 -- Reading bytes by any code (paper 01, "When a call says no": Read). The checks stand in the paper's order.
-use Rattle.std.specs.Prelude.{Bool, List, [], ◌∷◌, ℕ, suc, leb, ltb, length}
+use Rattle.std.specs.Prelude.{Bool, List, [], ◌∷◌, ℕ, suc, leb, ltb, length, Ok}
 use Rattle.calls.specs.declared.Refusal.{Refusal}
 use Rattle.calls.specs.declared.Refusal.TheVariants.{TooManyBytes, TooManyCodewords, TooLarge, NoRoom}
-use Rattle.calls.specs.Calls.{Outcome, accepted, check}
+use Rattle.calls.specs.Calls.{Outcome, check}
 use Rattle.calls.specs.Limits.{max_count}
 
 -- A code, as far as reading goes by it
@@ -28,7 +28,7 @@ unfoldable pub contents : Code → ℕ → List ℕ → Outcome (List ℕ)
 contents c limit s =
     check_finished limit 0 (c.numbers s)
     (check c.fault (c.unfinished s)
-    (accepted (c.numbers s)))
+    (Ok (c.numbers s)))
 
 -- The row of an encoding, which calls go on with once they have checked what they were asked for: 2, then its contents
 unfoldable pub decode : Code → ℕ → List ℕ → Outcome (List ℕ)
@@ -36,4 +36,4 @@ decode c limit s = check TooManyBytes (ltb c.byte_limit (length s)) (contents c 
 
 -- A row, or a text, for an output with so much room: 5 the output is shorter; else the count
 abbrev pub counted : ℕ → List ℕ → Outcome ℕ
-counted room row = check NoRoom (ltb room (length row)) (accepted (length row))
+counted room row = check NoRoom (ltb room (length row)) (Ok (length row))

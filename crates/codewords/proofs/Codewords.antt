@@ -1,6 +1,5 @@
 -- The codeword of a number, as it is made: how many bits stand before its last ones, and its word.
-use mathlib.Core.Logic.{◌⊎◌, ⊎_elim}
-use mathlib.Core.Path.{◌≡◌, refl, sym, ap, ap₂, ◌∙◌}
+use mathlib.Core.Path.{◌≡◌, refl, sym, ap, ap₂, subst, ◌∙◌}
 use mathlib.Core.Bool.{Bool, true, false, ◌&&◌}
 use mathlib.Core.List.{List, [], ◌∷◌, ◌++◌, append-nil}
 use Prim.Native.Nat.{ℕ, zero, suc, ◌+◌, ◌-◌, ◌*◌, ◌/◌, ◌%◌, ◌^◌, ◌≤◌, ◌<◌, min}
@@ -10,7 +9,6 @@ use native.Mathlib.Decide.{dec_le}
 use lib.Arith.{digits_lt}
 use lib.Dec.{leb}
 use lib.ListN.{length, get_or, replicate, get_or-replicate}
-use lib.Count.{count_leading_zeros, leading_top}
 use lib.Pow.{pow_pos, pow_mono, pow-add, shl_exact, shl-shr, ones_lt}
 use borrow.Author.Tests.{le-leb, lt-leb, leb-true}
 use Rattle.lists.specs.Lists.{values_from}
@@ -26,7 +24,7 @@ use Rattle.calls.specs.Limits.{max_number, Order}
 use Rattle.fibonacci.specs.Leaves.{number_or_zero}
 use Rattle.fibonacci.proofs.Numeration.{sum_down, F-suc, sum_down-suc, sum_down-zero, sum_down-none, digits-big, digits-small, digits_append, digits-length, F-rises, F-pos}
 use Rattle.fibonacci.proofs.Numbers.{first-suc, first-rises, first_pos, F-first, codeword-size}
-use Rattle.fibonacci.proofs.Lookup.{each-order, codeword-bits, number-kept, number-zero}
+use Rattle.fibonacci.proofs.Lookup.{each-order, codeword-bits, number-kept, number-zero, number-none, number-some}
 use Rattle.codewords.specs.Leaves.{rate, low_count, low_word, low_digits, HighDigits}
 
 -- ## The bits before the last ones
@@ -48,41 +46,30 @@ near-at m b o h =
     ap (near m) (sym (zero-add b)) ∙ sym (values-at (near m) 0 32 b true h) ∙ ap (λ (l : List Bool). get_or l b true) row
     ∙ get_or-replicate 32 b true true h
 
--- so a guess by the leading zeros of n is near
-pub guess-near : (m n b : ℕ) → Order m → 1 ≤ n → n ≤ max_number → b ≡ 63 - count_leading_zeros 64 n
+-- so a guess by the length of n in bits is near
+pub guess-near : (m n b : ℕ) → Order m → n ≤ max_number → 2 ^ b ≤ n → n < 2 * 2 ^ b
     → (first m (b * rate m / 8) ≤ n) × (n < first m (b * rate m / 8 + 4)) × (b * rate m / 8 ≤ 42)
 unfolding near
-guess-near m n b o p l e =
-    let top = leading_top 64 n p (omega arith) in
-    let same : top.0 ≡ b = omega (arith, top.1) in
-    let low : 2 ^ b ≤ n = rw same at top.2 in
-    let high : n < 2 ^ suc b = rw same at top.3 in
+guess-near m n b o l low high =
     let small : b < 32 = elim (dec_le 32 b) [ yes g ↦ absurd (omega (arith, pow_mono g)) | no g ↦ omega arith ] in
     let d : ℕ = b * rate m / 8 in
     let t = both (leb (first m d) (2 ^ b)) (leb (2 ^ suc b) (first m (d + 4)) && leb d 42) (near-at m b o small) in
     let u = both (leb (2 ^ suc b) (first m (d + 4))) (leb d 42) t.1 in
-    (omega (arith, leb-true (first m d) (2 ^ b) t.0), omega (arith, leb-true (2 ^ suc b) (first m (d + 4)) u.0), leb-true d 42 u.1)
-
-pub rate-small : (m : ℕ) → Order m → rate m ≤ 11
-unfolding rate
-rate-small m o = leb-true _ _ (each-order (λ m. leb (rate m) 11) true refl m o)
+    (omega (arith, leb-true (first m d) (2 ^ b) t.0), omega (arith, two-pow-succ b, leb-true (2 ^ suc b) (first m (d + 4)) u.0), leb-true d 42 u.1)
 
 -- a look-up tells whether a first number is reached
-pub reached-one : (m n d x : ℕ) → x ≡ number_or_zero (first m d) → (x ≡ 0 → ⊥) → x ≤ n → 1 ≡ bit_value (leb (first m d) n)
-reached-one m n d x e z l =
-    elim (dec_le (first m d) max_number) [
-      | yes b ↦ let r : first m d ≤ n = omega (arith, number-kept _ b) in rw (le-leb _ _ r)
-      | no b ↦ absurd (z (e ∙ number-zero _ (omega arith)))
-    ]
+pub first_reached : (m d n : ℕ) → (number_or_zero (first m d) ≡ 0 → ⊥) → number_or_zero (first m d) ≤ n → leb (first m d) n ≡ true
+first_reached m d n z l = le-leb _ _ (omega (arith, number-kept _ (number-some _ z)))
 
-pub reached-none : (m n d x : ℕ) → n ≤ max_number → x ≡ number_or_zero (first m d) → (x ≡ 0) ⊎ (n < x) → 0 ≡ bit_value (leb (first m d) n)
-reached-none m n d x l e none =
-    let above : n < first m d =
+pub first_none : (m d n : ℕ) → n ≤ max_number → number_or_zero (first m d) ≡ 0 → leb (first m d) n ≡ false
+first_none m d n l z = lt-leb _ _ (omega (arith, number-none _ (first_pos m d) z))
+
+pub first_above : (m d n : ℕ) → n < number_or_zero (first m d) → leb (first m d) n ≡ false
+first_above m d n h =
     elim (dec_le (first m d) max_number) [
-      | yes b ↦ ⊎_elim (λ (z : x ≡ 0). absurd (omega (arith, number-kept _ b, first_pos m d))) (λ (g : n < x). omega (arith, number-kept _ b)) none
-      | no b ↦ omega arith
-    ] in
-    rw (lt-leb _ _ above)
+      | yes b ↦ lt-leb _ _ (omega (arith, number-kept _ b))
+      | no b ↦ absurd (omega (arith, number-zero (first m d) (omega arith)))
+    ]
 
 -- and the guess, with one for each of the next three that is reached, is the length
 pub body_is : (m n d : ℕ) → Order m → 1 ≤ n → first m d ≤ n → n < first m (d + 4)
@@ -154,55 +141,49 @@ module _ (m n d : ℕ) (o : Order m) (p : 1 ≤ n) (l : n ≤ max_number) (long 
       )
 
 -- a digit more
-module _ (m n d j left w f : ℕ) (p : 1 ≤ m) (h : 1 ≤ j) (g : j ≤ d) (q : f ≡ F m j) (b : HighDigits m n d j left w) where
-  back : j ≡ suc (j - 1)
-  back = omega arith
-
-  longer : m + (d - (j - 1)) ≡ suc (m + (d - j))
+module _ (m n d j left w f : ℕ) (p : 1 ≤ m) (g : j < d) (q : f ≡ F m (suc j)) (b : HighDigits m n d (suc j) left w) where
+  longer : m + (d - j) ≡ suc (m + (d - suc j))
   longer = omega arith
 
-  begun : digits m (suc (j - 1)) left (word_bits (m + (d - j)) w) ≡ codeword m n
-  begun = ap (λ (k : ℕ). digits m k left (word_bits (m + (d - j)) w)) (sym back) ∙ b.0
-
-  value : f ≡ F m (suc (j - 1))
-  value = q ∙ ap (F m) back
-
-  doubled : F m (suc j) ≤ 2 * f
-  doubled = omega (arith, F-double m j p)
-
-  high_one : f ≤ left → HighDigits m n d (j - 1) (left - 1 * f) (w + 1 * 2 ^ (m + (d - j)))
+  high_one : f ≤ left → HighDigits m n d j (left - 1 * f) (w + 1 * 2 ^ (m + (d - suc j)))
   high_one big =
-      let v : w + 1 * 2 ^ (m + (d - j)) ≡ 1 * 2 ^ (m + (d - j)) + w = omega arith in
-      let r : left - 1 * f ≡ left - F m (suc (j - 1)) = omega (arith, value) in
-      rw (longer, v, r, words-cons true (m + (d - j)) w b.1) (
-        sym (digits-big m (j - 1) left (word_bits (m + (d - j)) w) (omega (arith, value))) ∙ begun,
-        omega (arith, two-pow-succ (m + (d - j)), b.1),
-        omega (arith, value, doubled, b.2),
+      let v : w + 1 * 2 ^ (m + (d - suc j)) ≡ 1 * 2 ^ (m + (d - suc j)) + w = omega arith in
+      let r : left - 1 * f ≡ left - F m (suc j) = omega (arith, q) in
+      rw (longer, v, r, words-cons true (m + (d - suc j)) w b.1) (
+        sym (digits-big m j left (word_bits (m + (d - suc j)) w) (omega (arith, q))) ∙ b.0,
+        omega (arith, two-pow-succ (m + (d - suc j)), b.1),
+        omega (arith, q, F-double m (suc j) p, b.2),
       )
 
-  high_zero : left < f → HighDigits m n d (j - 1) (left - 0 * f) (w + 0 * 2 ^ (m + (d - j)))
+  high_zero : left < f → HighDigits m n d j (left - 0 * f) (w + 0 * 2 ^ (m + (d - suc j)))
   high_zero small =
-      let v : w + 0 * 2 ^ (m + (d - j)) ≡ 0 * 2 ^ (m + (d - j)) + w = omega arith in
+      let v : w + 0 * 2 ^ (m + (d - suc j)) ≡ 0 * 2 ^ (m + (d - suc j)) + w = omega arith in
       let r : left - 0 * f ≡ left = omega arith in
-      rw (longer, v, r, words-cons false (m + (d - j)) w b.1) (
-        sym (digits-small m (j - 1) left (word_bits (m + (d - j)) w) (omega (arith, value))) ∙ begun,
-        omega (arith, two-pow-succ (m + (d - j)), b.1),
-        omega (arith, value),
+      rw (longer, v, r, words-cons false (m + (d - suc j)) w b.1) (
+        sym (digits-small m j left (word_bits (m + (d - suc j)) w) (omega (arith, q))) ∙ b.0,
+        omega (arith, two-pow-succ (m + (d - suc j)), b.1),
+        omega (arith, q),
       )
 
-  pub high-more : (c : ℕ) → d + m ≤ 47 → c ≡ bit_value (leb f left) → c ≤ 1
-      → (c * f ≤ left) × HighDigits m n d (j - 1) (left - c * f) (w + c * 2 ^ (m + d - j) % 2 ^ 64)
-  high-more c long e bit =
-      let k : m + d - j ≡ m + (d - j) = omega arith in
-      rw (k, shifted-bit c (m + (d - j)) bit (omega arith))
+  high_next : (c k : ℕ) → m + d ≤ 47 → k ≡ m + (d - suc j) → c ≡ bit_value (leb f left) → c ≤ 1
+      → (c * f ≤ left) × HighDigits m n d j (left - c * f) (w + c * 2 ^ k % 2 ^ 64)
+  high_next c k short e bit few =
+      rw (e, shifted-bit c (m + (d - suc j)) few (omega arith))
       (elim (dec_le f left) [
-        | yes big ↦
-            let one : c ≡ 1 = e ∙ ap bit_value (le-leb f left big) in
-            rw one (omega arith, high_one big)
-        | no small ↦
-            let zero : c ≡ 0 = e ∙ ap bit_value (lt-leb f left (omega arith)) in
-            rw zero (omega arith, high_zero (omega arith))
+        | yes big ↦ let one : c ≡ 1 = bit ∙ ap bit_value (le-leb f left big) in rw one (omega arith, high_one big)
+        | no small ↦ let zero : c ≡ 0 = bit ∙ ap bit_value (lt-leb f left (omega arith)) in rw zero (omega arith, high_zero (omega arith))
       ])
+
+-- .. where what is left comes with 2^32 added
+pub high-more : (m n d j above w f c k : ℕ) → 1 ≤ m → 1 ≤ j → j ≤ d → m + d ≤ 47 → k + j ≡ m + d → 2 ^ 32 ≤ above → f ≡ F m (j - 1 + 1)
+    → HighDigits m n d j (above - 2 ^ 32) w → c ≡ bit_value (leb f (above - 2 ^ 32)) → c ≤ 1
+    → (2 ^ 32 ≤ above - c * f) × HighDigits m n d (j - 1) (above - c * f - 2 ^ 32) (w + c * 2 ^ k % 2 ^ 64)
+high-more m n d j above w f c k p i g short s least q b bit few =
+    let back : j ≡ suc (j - 1) = omega arith in
+    let t = high_next m n d (j - 1) (above - 2 ^ 32) w f p (omega arith) (q ∙ ap (F m) (omega arith))
+    (subst (λ (i : ℕ). HighDigits m n d i (above - 2 ^ 32) w) back b) c k short (omega arith) bit few in
+    let same : above - c * f - 2 ^ 32 ≡ above - 2 ^ 32 - c * f = omega arith in
+    (omega (arith, t.0), rw same t.1)
 
 -- ## The lowest digits
 
@@ -270,10 +251,6 @@ pub low-at : (m x : ℕ) → x < 64 → get_or (low_digits m) x 0 ≡ low_word m
 unfolding low_digits
 low-at m x h = values-at (λ x. low_word m (low_count m) x) 0 64 x 0 h ∙ ap (low_word m (low_count m)) (zero-add x)
 
-pub low-few : (m : ℕ) → Order m → low_count m ≤ 8
-unfolding low_count
-low-few m o = leb-true _ _ (each-order (λ m. leb (low_count m) 8) true refl m o)
-
 -- what is left for the low digits is in the table
 pub low-within : (m j x : ℕ) → Order m → j ≤ low_count m → x < F m (suc j) → x < 64
 unfolding low_count F past
@@ -285,32 +262,37 @@ low-within m j x o h l =
 -- ## The word
 
 -- the low digits, shifted up and then down again, end up before those above them
-module _ (m n d t left w : ℕ) (o : Order m) (long : d + m ≤ 47) (few : t ≤ 8) (b : HighDigits m n d (min d t) left w) where
+module _ (m n d left w : ℕ) (o : Order m) (b : HighDigits m n d (min d (low_count m)) left w) where
   stop : ℕ
-  stop = min d t
+  stop = min d (low_count m)
 
   below : ℕ
   below = m + (d - stop)
 
-  moved : low_word m t left * 2 ^ (d + m) % 2 ^ 64 / 2 ^ t ≡ low_word m stop left * 2 ^ below
+  moved : (t len : ℕ) → t ≡ low_count m → t ≤ 8 → len ≡ d + m → len ≤ 47 → low_word m t left * 2 ^ len % 2 ^ 64 / 2 ^ t ≡ low_word m stop left * 2 ^ below
   unfolding stop below
-  moved =
-      let k : stop + (t - stop) ≡ t = omega arith in
-      let u : below + stop ≡ d + m = omega arith in
-      let e : low_word m t left * 2 ^ (d + m) ≡ low_word m stop left * 2 ^ below * 2 ^ t =
-      sym (ap₂ (λ (i s : ℕ). low_word m i left * 2 ^ s) k u) ∙ low-moved m stop (t - stop) below left (omega arith) b.2
-      ∙ ap (λ (i : ℕ). low_word m stop left * 2 ^ below * 2 ^ i) k in
-      ap (λ (v : ℕ). v / 2 ^ t) (shl_exact {a = low_word m t left} t (d + m) 64 (low_below m t left) (omega arith) ∙ e)
+  moved t len q few l short =
+      let k : t ≡ stop + (t - stop) = omega arith in
+      let u : len ≡ below + stop = omega arith in
+      let e : low_word m t left * 2 ^ len ≡ low_word m stop left * 2 ^ below * 2 ^ t =
+      ap₂ (λ (i s : ℕ). low_word m i left * 2 ^ s) k u ∙ low-moved m stop (t - stop) below left (omega arith) b.2
+      ∙ ap (λ (i : ℕ). low_word m stop left * 2 ^ below * 2 ^ i) (sym k) in
+      ap (λ (v : ℕ). v / 2 ^ t) (shl_exact {a = low_word m t left} t len 64 (low_below m t left) (omega arith) ∙ e)
       ∙ shl-shr (low_word m stop left * 2 ^ below) t
 
-  pub high_end : (x : ℕ) → x ≡ low_word m t left
-      → (word_bits (d + m) (w + x * 2 ^ (d + m) % 2 ^ 64 / 2 ^ t) ≡ codeword m n) × (w + x * 2 ^ (d + m) % 2 ^ 64 / 2 ^ t < 2 ^ (d + m))
+  pub within : left < 64
+  unfolding stop
+  within = low-within m stop left o (omega arith) b.2
+
+  pub high_end : (t len x : ℕ) → t ≡ low_count m → t ≤ 8 → len ≡ d + m → len ≤ 47 → x ≡ get_or (low_digits m) left 0
+      → (word_bits len (w + x * 2 ^ len % 2 ^ 64 / 2 ^ t) ≡ codeword m n) × (w + x * 2 ^ len % 2 ^ 64 / 2 ^ t < 2 ^ len)
   unfolding stop below
-  high_end x e =
+  high_end t len x q few l short e =
       let low : ℕ = low_word m stop left in
-      let u : d + m ≡ stop + below = omega arith in
+      let u : len ≡ stop + below = omega arith in
       let v : w + low * 2 ^ below ≡ low * 2 ^ below + w = omega arith in
-      rw (e, moved, u, v) (
+      let y : x ≡ low_word m t left = e ∙ low-at m left within ∙ ap (λ (t : ℕ). low_word m t left) (sym q) in
+      rw (y, moved t len q few l short, u, v) (
         words-join stop below low w b.1 ∙ ap (λ (l : List Bool). l ++ word_bits below w) (low_bits m stop left)
             ∙ sym (digits_append m stop left [] (word_bits below w)) ∙ b.0,
         rw (pow-add 2 stop below) (digits_lt (low_below m stop left) b.1),

@@ -3,8 +3,7 @@ use Rattle.std.specs.Prelude.{◌≡◌, true, false, List, [], ℕ, suc, ◌+�
 use Rattle.lists.specs.Lists.{values_from}
 use Rattle.bits.specs.Bits.{word_bits, word_of}
 use Rattle.fibonacci.specs.Code.{F, digits, codeword}
-use Rattle.fibonacci.specs.Leaves.{Positions, Firsts}
-use Rattle.codewords.specs.declared.Word.{Word}
+use Rattle.bits.specs.declared.Word.{Word}
 
 -- ## The guess
 
@@ -35,14 +34,8 @@ abbrev pub HighDigits : ℕ → ℕ → ℕ → ℕ → ℕ → ℕ → Type 0
 HighDigits m n d j left w =
     (digits m j left (word_bits (m + (d - j)) w) ≡ codeword m n) × (w < 2 ^ (m + (d - j))) × (left < F m (suc j))
 
--- ## The tables
-
--- What a function knows of the tables that it is lent: the order is in use, and these are its position values, its first numbers and its low digits
-abbrev pub Tables : ℕ → List ℕ → List ℕ → List ℕ → Type 0
-Tables m positions firsts low = Positions m positions × Firsts m firsts × (low ≡ low_digits m)
-
 -- ## The word
 
--- A word's low bits, so many, are the codeword of n
+-- A word is the codeword of n
 abbrev pub Codes : ℕ → ℕ → Word → Type 0
-Codes m n w = (word_bits w.len w.bits ≡ codeword m n) × (w.bits < 2 ^ w.len) × (w.len ≡ length (codeword m n)) × (1 ≤ w.len) × (w.len ≤ 47)
+Codes m n w = (word_bits w.len w.bits ≡ codeword m n) × (w.len ≡ length (codeword m n)) × (w.len ≤ 47)

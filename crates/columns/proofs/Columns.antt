@@ -1,13 +1,14 @@
 -- Columns: how long they are, that they give the number back, and how they are put and read.
 use mathlib.Core.Path.{◌≡◌, refl, sym, ap, ◌∙◌}
-use mathlib.Core.List.{List, [], ◌∷◌, ◌++◌, foldl, foldl-append}
+use mathlib.Core.List.{List, [], ◌∷◌, ◌++◌, foldl, foldl-append, append_assoc}
 use Prim.Native.Nat.{ℕ, zero, suc, ◌+◌, ◌-◌, ◌*◌, ◌/◌, ◌%◌, ◌^◌, ◌≤◌, ◌<◌}
 use native.Mathlib.Omega.{arith}
 use native.Mathlib.Numerals.{add-one}
 use native.Mathlib.Nat.{add-zero, pow-succ', pow-le-pow_right}
 use native.Mathlib.Decide.{dec_le}
-use lib.ListN.{length, get_or, drop, set, length-append, drop_of_length-le}
-use lib.Seq.{sets, set_comm, drop-cons}
+use lib.ListN.{length, get_or, take, drop, set, length-append, drop_of_length-le}
+use lib.Seq.{sets, sets-eq, set_comm, drop-cons, drop-drop}
+use borrow.Rule.Slice.PartMut.{put_mid}
 use borrow.Author.Tests.{ne_eqb}
 use Rattle.columns.specs.Columns.{digit, leader, leading, column, decimal}
 
@@ -81,48 +82,55 @@ column-below (suc w) n = simp decimal-last (omega (arith, leading-below w (n / 1
 
 -- ## Putting a number, column by column from the right
 
--- with w columns left to put, and what is left of the number: these make the whole
-pub column-first : (out : List ℕ) (at w n : ℕ) → sets out at (column (w + 1) n) ≡ sets (set out (at + w) (digit n)) at (leading w (n / 10))
-unfolding column
-column-first out at w n =
-    rw add-one (sets_last out at (leading w (n / 10)) (digit n) ∙ ap (λ (k : ℕ). sets (set out (at + k) (digit n)) at (leading w (n / 10))) (leading_length w (n / 10)))
+-- the column after others, put first
+last_put : (out : List ℕ) (at end w k x : ℕ) → end ≡ at + w → sets (set out end x) at (leading w k) ≡ sets out at (leading w k ++ (x ∷ []))
+last_put out at end w k x e =
+    let last : end ≡ at + length (leading w k) = omega (arith, leading_length w k) in
+    ap (λ (i : ℕ). sets (set out i x) at (leading w k)) last ∙ sym (sets_last out at (leading w k) x)
 
-pub leading-more : (out : List ℕ) (at w k : ℕ) → 0 < w → sets out at (leading w k) ≡ sets (set out (at + (w - 1)) (leader k)) at (leading (w - 1) (k / 10))
+-- the columns from one place up to another are left to put: the last of them, and then those before it
+pub leading_less : (out : List ℕ) (at end k : ℕ) → at < end
+    → sets (set out (end - 1) (leader k)) at (leading (end - 1 - at) (k / 10)) ≡ sets out at (leading (end - at) k)
 unfolding leading
-leading-more out at w k h =
-    let e : w ≡ suc (w - 1) = omega arith in
-    ap (λ (j : ℕ). sets out at (leading j k)) e ∙ sets_last out at (leading (w - 1) (k / 10)) (leader k)
-    ∙ ap (λ (j : ℕ). sets (set out (at + j) (leader k)) at (leading (w - 1) (k / 10))) (leading_length (w - 1) (k / 10))
+leading_less out at end k h =
+    let e : end - at ≡ suc (end - 1 - at) = omega arith in rw e (last_put out at (end - 1) (end - 1 - at) (k / 10) (leader k) (omega arith))
+
+-- none is left
+pub leading_none : (out : List ℕ) (at end k : ℕ) → end ≤ at → sets out at (leading (end - at) k) ≡ out
+unfolding leading
+leading_none out at end k h = let e : end - at ≡ 0 = omega arith in rw e refl
+
+-- all are left but for the last column of the number
+pub column_last : (out : List ℕ) (at w n : ℕ) → (w ≡ 0 → ⊥)
+    → sets (set out (at + w - 1) (digit n)) at (leading (at + w - 1 - at) (n / 10)) ≡ sets out at (column w n)
+unfolding column
+column_last out at zero n h = absurd (h refl)
+column_last out at (suc w) n h =
+    let e : at + suc w - 1 - at ≡ w = omega arith in rw e (last_put out at (at + suc w - 1) w (n / 10) (digit n) (omega arith))
 
 -- ## Reading a number, digit by digit
 
 -- after i bytes: their number, which is not large; from it the others make the whole
 abbrev pub Counted : List ℕ → ℕ → ℕ → Type 0
-Counted text i v = (v + 23 ≤ 23 * 10 ^ i) × (foldl (λ v b. 10 * v + (b - 48)) v (drop i text) ≡ decimal text)
+Counted text i n = (n + 23 ≤ 23 * 10 ^ i) × (foldl (λ n b. 10 * n + (b - 48)) n (drop i text) ≡ decimal text)
 
-pub counted_none : (text : List ℕ) → Counted text 0 0
-unfolding decimal
-counted_none text = (omega arith, refl)
+module _ (text : List ℕ) where
+  pub counted_none : Counted text 0 0
+  unfolding decimal
+  counted_none = (omega arith, refl)
 
-module _ (text : List ℕ) (i v : ℕ) (c : Counted text i v) where
-  pub counted-few : i ≤ 10 → v ≤ 230000000000
-  counted-few h = omega (arith, c.0, pow-le-pow_right {n = 10} (omega arith) {i = i} {j = 10} h)
+  pub counted_few : (i n : ℕ) → Counted text i n → i ≤ 10 → n ≤ 230000000000
+  counted_few i n c h = omega (arith, c.0, pow-le-pow_right {n = 10} (omega arith) {i = i} {j = 10} h)
 
-  pub counted-more : (x : ℕ) → i < length text → x ≡ get_or text i 0 - 48 → x ≤ 207 → Counted text (i + 1) (10 * v + x)
-  counted-more x h e b =
-      rw add-one (
-        omega (arith, c.0, pow-succ' 10 i),
-        rw e (rw (drop-cons text i 0 h) at c.1),
-      )
+  pub counted_more : (i n x : ℕ) → Counted text i n → i < length text → x ≡ get_or text i 0 - 48 → x ≤ 207 → Counted text (i + 1) (10 * n + x)
+  counted_more i n x c h e b = rw add-one (omega (arith, c.0, pow-succ' 10 i), rw e (rw (drop-cons text i 0 h) at c.1))
 
-  pub counted-end : length text ≤ i → v ≡ decimal text
-  counted-end h = rw (drop_of_length-le text {i = i} h) at c.1
+  pub counted_end : (i n : ℕ) → Counted text i n → length text ≤ i → n ≡ decimal text
+  counted_end i n c h = rw (drop_of_length-le text {i = i} h) at c.1
 
--- ## Putting a text, byte by byte
+-- ## Putting a text
 
--- after i bytes: the others make the whole
-pub text-more : (out text : List ℕ) (at i x : ℕ) → i < length text → x ≡ get_or text i 0
-    → sets out (at + i) (drop i text) ≡ sets (set out (at + i) x) (at + (i + 1)) (drop (i + 1) text)
-text-more out text at i x h e =
-    let k : at + suc i ≡ suc (at + i) = omega arith in
-    rw (add-one, k, e) (ap (λ (l : List ℕ). sets out (at + i) l) (drop-cons text i 0 h))
+pub text_put : (out text : List ℕ) (at : ℕ) → at + length text ≤ length out → put_mid at (at + length text - at) out text ≡ sets out at text
+text_put out text at h =
+    let e : at + length text - at ≡ length text = omega arith in
+    rw (e, drop-drop (length text) at out) (sym (append_assoc (take at out) text (drop (at + length text) out)) ∙ sym (sets-eq text out at h))

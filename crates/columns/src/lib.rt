@@ -9,10 +9,11 @@ ghost use Rattle.columns.specs.Columns.{digit, leader, column, decimal};
 fn digit(n: u64) -> u8
     ensures { result ≡ digit n }
 {
-    (48 + n % 10) as u8
+    b'0' + (n % 10) as u8
 }
 
 // A column in front of digits: the last digit of what is left of the number, or a space where nothing is.
+#[tactic(auto, unfolding(crate::specs::Columns::leader))]
 fn leader(k: u64) -> u8
     ensures { result ≡ leader k }
 {
@@ -21,6 +22,7 @@ fn leader(k: u64) -> u8
 
 // n in so many columns of a buffer, from byte `at` on, column by column from the right. Requires: there is room, which
 // whoever prints has checked.
+#[tactic(auto, using(crate::proofs::Columns::leading_none, crate::proofs::Columns::column_last), unfolding(crate::specs::Columns::column))]
 pub fn put(out: &mut [u8], at: usize, width: usize, n: u64)
     requires { at + width ≤ length out.old }
     ensures { out.new ≡ sets out.old at (column width n) }
@@ -28,41 +30,34 @@ pub fn put(out: &mut [u8], at: usize, width: usize, n: u64)
     if width == 0 {
         return;
     }
-    let mut w = width - 1;
-    out[at + w] = digit(n);
+    let last = at + width - 1;
+    out[last] = digit(n);
     let mut left = n / 10;
-    while w > 0 {
-        w -= 1;
-        out[at + w] = leader(left);
-        left = left / 10;
+    for i in (at..last).rev() {
+        out[i] = leader(left);
+        left /= 10;
     }
 }
 
 // A text in a buffer, from byte `at` on. Requires: there is room, which whoever prints has checked.
+#[tactic(auto, using(crate::proofs::Columns::text_put))]
 pub fn put_text(out: &mut [u8], at: usize, text: &[u8])
     requires { at + length text.now ≤ length out.old }
     ensures { out.new ≡ sets out.old at text.now }
 {
-    for i in 0..text.len() {
-        out[at + i] = text[i];
-    }
+    out[at..at + text.len()].copy_from_slice(text);
 }
 
-// What a byte counts as a digit.
-fn digit_value(b: u8) -> u64
-    ensures { (result ≡ b - 48) × (result ≤ 207) }
-{
-    if b < 48 { 0 } else { (b - 48) as u64 }
-}
-
-// The number that a text gives as decimal digits. Requires: at most 10 columns, which whoever reads a column knows.
+// The number that a text gives as decimal digits; a byte below the digit 0, as a space, counts as 0. Requires: at most 10 columns, which whoever reads a column
+// knows.
+#[tactic(auto, using(crate::proofs::Columns::counted_none, crate::proofs::Columns::counted_few, crate::proofs::Columns::counted_end))]
 pub fn decimal(text: &[u8]) -> u64
     requires { length text.now ≤ 10 }
     ensures { result ≡ decimal text.now }
 {
-    let mut v: u64 = 0;
-    for i in 0..text.len() {
-        v = 10 * v + digit_value(text[i]);
+    let mut n: u64 = 0;
+    for &b in text {
+        n = 10 * n + u64::from(b.saturating_sub(b'0'));
     }
-    v
+    n
 }

@@ -1,42 +1,41 @@
 // The listing program's text, of a row and of an input as it stands.
-use crate::say;
-use calls::CountAnswer;
+use crate::buffer::{Buffer, Text};
+use crate::elements::MAX_LIST;
+use crate::words::Words;
+use std::fmt;
+use std::fmt::Write;
 
 // More than an input may have.
 const INPUT_ROOM: usize = 45100;
 
+type Input = Buffer<INPUT_ROOM>;
+
 // What `listing_text` makes of an input. `serve` puts the last line feed, as it does after every answer.
-fn listed(out: &mut [u8], input: &[u8], n: usize) -> usize {
-    if n > input.len() {
-        return 0;
-    }
-    let a = listing_text::listing(&input[0..n], out);
-    match a {
-        CountAnswer::Count(size) => if size == 0 { 0 } else { size - 1 },
-        CountAnswer::Refused(_) => 0,
-    }
+fn listed(input: &Input, text: &mut Text) -> fmt::Result {
+    let mut out = [0u8; listing_text::MAX_TEXT_BYTES];
+    let size = listing_text::listing(input.bytes(), &mut out).unwrap_or(0);
+    let lines = out.get(..size.saturating_sub(1)).unwrap_or(&[]);
+    text.put(lines);
+    Ok(())
 }
 
-// A line of the input: a number in ten columns.
-fn put_line(input: &mut [u8], at: usize, n: u64) -> usize {
-    let mut line = [b'\n'; 11];
-    columns::put(&mut line, 0, 10, n);
-    say::text(input, at, &line)
-}
-
-fn put_row(input: &mut [u8], at: usize, row: &[u32]) -> usize {
-    let mut at = at;
-    for i in 0..row.len() {
-        at = put_line(input, at, calls::wide(row[i]));
+// The lines of an input, a number each in ten columns, as far as there is room.
+fn put_lines(input: &mut Input, order: u64, row: &[u32]) -> fmt::Result {
+    writeln!(input, "{order:>10}")?;
+    for n in row {
+        writeln!(input, "{n:>10}")?;
     }
-    at
+    Ok(())
 }
 
-pub fn of_row(out: &mut [u8], order: u64, row: &[u32]) -> usize {
-    let mut input = [0u8; INPUT_ROOM];
-    let at = put_line(&mut input, 0, order);
-    let at = put_row(&mut input, at, row);
-    listed(out, &input, at)
+// An order has at most ten digits.
+pub fn of_row(mut words: Words, text: &mut Text) -> Option<fmt::Result> {
+    let mut row = [0u32; MAX_LIST];
+    let order = words.number().filter(|order| *order <= 9999999999)?;
+    let row = words.list(&mut row)?;
+    let mut input = Input::new();
+    let _ = put_lines(&mut input, order, row);
+    Some(listed(&input, text))
 }
 
 // The byte that a character stands for.
@@ -49,31 +48,18 @@ fn meant(b: u8) -> u8 {
     }
 }
 
-fn put_text(input: &mut [u8], at: usize, s: &[u8]) -> usize {
-    let mut at = at;
-    for i in 0..s.len() {
-        at = say::byte(input, at, meant(s[i]));
+// A text so many times, as far as there is room; it stands behind the blank after the number.
+pub fn of_text(mut words: Words, text: &mut Text) -> Option<fmt::Result> {
+    let times: usize = words.number()?;
+    let mut once = Input::new();
+    for &b in words.text() {
+        once.put(&[meant(b)]);
     }
-    at
-}
-
-// A text so many times, as far as there is room.
-fn put_times(input: &mut [u8], times: u64, s: &[u8]) -> usize {
-    let mut at: usize = 0;
-    if s.len() == 0 {
-        return at;
-    }
-    for k in 0..times {
-        if at >= input.len() {
-            return at;
+    let mut input = Input::new();
+    for _ in 0..times.min(INPUT_ROOM) {
+        if !input.put(once.bytes()) {
+            break;
         }
-        at = put_text(input, at, s);
     }
-    at
-}
-
-pub fn of_text(out: &mut [u8], times: u64, s: &[u8]) -> usize {
-    let mut input = [0u8; INPUT_ROOM];
-    let at = put_times(&mut input, times, s);
-    listed(out, &input, at)
+    Some(listed(&input, text))
 }

@@ -1,160 +1,94 @@
 // The console: reads requests from standard input, a line each, and prints the answer to each line before it reads on.
 #![tactic(auto)]
 
+mod buffer;
+mod coded;
+mod elements;
 mod listings;
+mod operations;
 mod requests;
-mod say;
 mod serve;
-mod texts;
+mod tables;
 mod words;
 
+use buffer::{Buffer, Text};
 use std::io::Read;
+use thiserror::Error;
 
 // The most bytes of a line: the longest row, the largest index and the longest encoding fit. One of the dense code may have 102,400 bytes, of three characters
 // each.
 const MAX_LINE: usize = 327679;
 
-// Room for every answer: 102,416 bytes, of three characters each, make the longest.
-const MAX_ANSWER: usize = 393216;
-
 // How many bytes a read asks for.
 const CHUNK_BYTES: usize = 65536;
 
-// The line that is being read: how many of its bytes are in the buffer, and whether it had more than fit; and whether there is somebody to answer.
-#[derive(Clone, Copy)]
+// Why the console ends before its input.
+#[derive(Clone, Copy, Debug, Error)]
+enum Trouble {
+    #[error("leadginger: the input cannot be read")]
+    Input,
+    #[error("leadginger: the output cannot be written")]
+    Output,
+}
+
+// The line that is being read: its bytes, as far as they fit, and whether it has more.
+#[derive(Drop)]
 struct Line {
-    len: usize,
+    bytes: Buffer<MAX_LINE>,
     long: bool,
-    heard: bool,
 }
 
-// Where standard error takes nothing either, there is nobody to tell.
-fn complain(rt: &impl Eprint, message: &str) {
-    let _ = rt.eprintln(message);
+// The answer to a line, printed at once.
+fn answer(rt: &impl Print, line: &Line, text: &mut Text) -> Result<(), Trouble> {
+    text.clear();
+    if line.long {
+        text.put(b"expected a line of at most 327679 bytes\n");
+    } else {
+        serve::line(line.bytes.bytes(), text);
+    }
+    rt.write_all(text.bytes()).map_err(|_| Trouble::Output)
 }
 
-fn put_answer(line: &[u8], long: bool, out: &mut [u8]) -> usize {
-    if long {
-        return say::text(out, 0, b"expected a line of at most 327679 bytes\n");
-    }
-    serve::line(line, out)
-}
-
-// The answer to a line, printed at once. The result is whether it could be.
-fn answer(rt: &(impl Print + Eprint), line: &[u8], long: bool, out: &mut [u8]) -> bool {
-    let n = put_answer(line, long, out);
-    if n > out.len() {
-        return false;
-    }
-    let heard = rt.write_all(&out[0..n]).is_ok();
-    if !heard {
-        complain(rt, "leadginger: the output cannot be written");
-    }
-    heard
-}
-
-// One byte more of the input: it ends the line, or belongs to it.
-fn with_byte(
-    rt: &(impl Print + Eprint),
-    line: Line,
-    b: u8,
-    buf: &mut [u8],
-    out: &mut [u8],
-) -> Line {
-    let n = line.len;
-    if n > buf.len() {
-        return line;
-    }
-    if b == b'\n' {
-        let heard = answer(rt, &buf[0..n], line.long, out);
-        return Line {
-            len: 0,
-            long: false,
-            heard,
-        };
-    }
-    if n == buf.len() {
-        return Line { long: true, ..line };
-    }
-    buf[n] = b;
-    Line { len: n + 1, ..line }
-}
-
-fn with_bytes(
-    rt: &(impl Print + Eprint),
-    line: Line,
-    bytes: &[u8],
-    buf: &mut [u8],
-    out: &mut [u8],
-) -> Line {
-    let mut line = line;
-    for i in 0..bytes.len() {
-        if !line.heard {
-            return line;
+// More bytes of the input: each line feed among them ends a line, which is answered.
+fn take(rt: &impl Print, bytes: &[u8], line: &mut Line, text: &mut Text) -> Result<(), Trouble> {
+    for (i, piece) in bytes.split(|b| *b == b'\n').enumerate() {
+        if 0 < i {
+            answer(rt, line, text)?;
+            line.bytes.clear();
+            line.long = false;
         }
-        line = with_byte(rt, line, bytes[i], buf, out);
-    }
-    line
-}
-
-// The input has ended: the last line may lack its line feed.
-fn end(rt: &(impl Print + Eprint), line: Line, buf: &mut [u8], out: &mut [u8]) -> Line {
-    let mut last = line;
-    if 0 < line.len {
-        last = with_byte(rt, line, b'\n', buf, out);
-    }
-    Line {
-        heard: false,
-        ..last
-    }
-}
-
-// Reads once, and answers the lines that have come whole.
-fn turn(
-    rt: &(impl Print + Eprint),
-    input: &mut impl Read,
-    line: Line,
-    chunk: &mut [u8],
-    buf: &mut [u8],
-    out: &mut [u8],
-) -> Line {
-    match input.read(chunk) {
-        Ok(0) => end(rt, line, buf, out),
-        Ok(n) => with_bytes(rt, line, &chunk[0..n], buf, out),
-        Err(_) => {
-            complain(rt, "leadginger: the input cannot be read");
-            Line {
-                heard: false,
-                ..line
-            }
+        if !line.bytes.put(piece) {
+            line.long = true;
         }
     }
+    Ok(())
 }
 
-// A proved loop has to end, and nothing says that an input does: there are as many turns as no run uses up.
-fn each_turn(
-    rt: &(impl Print + Eprint),
-    input: &mut impl Read,
-    chunk: &mut [u8],
-    buf: &mut [u8],
-    out: &mut [u8],
-) {
+// Answers each line of the input, of which the last may lack its line feed. A proved loop has to end, and nothing says that an input does: there are as many
+// reads as no run uses up.
+fn serve_all(rt: &impl Print, input: &mut impl Read) -> Result<(), Trouble> {
+    let mut chunk = [0u8; CHUNK_BYTES];
+    let mut text = Text::new();
     let mut line = Line {
-        len: 0,
+        bytes: Buffer::new(),
         long: false,
-        heard: true,
     };
     for _ in 0..u64::MAX {
-        if !line.heard {
-            return;
+        let n = input.read(&mut chunk).map_err(|_| Trouble::Input)?;
+        if n == 0 {
+            break;
         }
-        line = turn(rt, input, line, chunk, buf, out);
+        take(rt, &chunk[..n], &mut line, &mut text)?;
     }
+    if line.bytes.is_empty() {
+        return Ok(());
+    }
+    answer(rt, &line, &mut text)
 }
 
 fn main(rt: HostRuntime) {
-    let mut chunk = [0u8; CHUNK_BYTES];
-    let mut buf = [0u8; MAX_LINE];
-    let mut out = [0u8; MAX_ANSWER];
-    each_turn(&rt, &mut rt.stdin(), &mut chunk, &mut buf, &mut out);
+    if let Err(trouble) = serve_all(&rt, &mut rt.stdin()) {
+        // Where standard error takes nothing either, there is nobody to tell.
+        let _ = rt.eprintln(trouble);
+    }
 }

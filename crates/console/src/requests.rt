@@ -1,252 +1,193 @@
-// Requests, each by its line in the help: what it takes, and the operation that answers it.
-use crate::texts;
-use answers::Answer;
-use calls::wide;
-use headers::Header;
+// Requests: what each takes, as the help has it, and what answers it.
+use crate::buffer::Text;
+use crate::operations::{Changing, EncodingQuestion, IndexQuestion, Reading, Writing};
+use crate::words::Words;
+use crate::{coded, listings, tables};
+use std::fmt;
+use std::fmt::Write;
 
-// Whether a number is to be put in the place of another, or would be.
-fn is_replacement(k: usize) -> bool {
-    k == texts::REPLACE || k == texts::PREVIEW
+#[derive(Clone, Copy)]
+pub enum Request {
+    Codewords,
+    Writing(Writing),
+    Reading(Reading),
+    Encoding(EncodingQuestion),
+    Index(IndexQuestion),
+    Changing(Changing),
+    Listing,
+    ListingText,
+    TableRow,
+    TableValue,
+    Help,
 }
 
-// How many decimal numbers follow the name.
-pub fn numbers_of(k: usize) -> usize {
-    if k == texts::TABLE_READ || k == texts::TABLE_READ_BYTES || k == texts::HELP_ITSELF {
-        return 0;
+// A request, its name with what follows it, and an example.
+type Entry = (Request, &'static str, &'static str);
+
+// In the order of the help.
+const REQUESTS: [Entry; 22] = [
+    (
+        Request::Codewords,
+        "codewords ORDER ROW",
+        "codewords 2 3 1 4 2 1",
+    ),
+    (
+        Request::Writing(Writing::Write),
+        "write ORDER ROW",
+        "write 2 3 1 4 2 1",
+    ),
+    (
+        Request::Reading(Reading::Read),
+        "read ORDER BYTES",
+        "read 2 3E DE",
+    ),
+    (
+        Request::Reading(Reading::TableRead),
+        "table-read BYTES",
+        "table-read 6D B8",
+    ),
+    (
+        Request::Writing(Writing::TableReadBytes),
+        "table-read-bytes BYTES",
+        "table-read-bytes 6D B8",
+    ),
+    (
+        Request::Writing(Writing::DenseWrite),
+        "dense-write STOPPERS ROW",
+        "dense-write 128 129 16512",
+    ),
+    (
+        Request::Reading(Reading::DenseRead),
+        "dense-read STOPPERS BYTES",
+        "dense-read 128 80 00 FF 7F",
+    ),
+    (
+        Request::Encoding(EncodingQuestion::Header),
+        "header ORDER BYTES",
+        "header 2 3E DE",
+    ),
+    (
+        Request::Changing(Changing::Append),
+        "append ORDER NUMBER BITS COUNT TOTAL BYTES",
+        "append 2 600 15 5 11 3E DE",
+    ),
+    (
+        Request::Changing(Changing::Replace),
+        "replace ORDER PLACE NUMBER BYTES",
+        "replace 2 2 1 3E DE",
+    ),
+    (
+        Request::Changing(Changing::Preview),
+        "preview ORDER PLACE NUMBER BYTES",
+        "preview 2 2 600 3E DE",
+    ),
+    (
+        Request::Encoding(EncodingQuestion::Total),
+        "total ORDER FROM TO BYTES",
+        "total 2 0 5 3E DE",
+    ),
+    (
+        Request::Encoding(EncodingQuestion::RepeatedTotal),
+        "repeated-total ORDER REPEATS SHARED BYTES",
+        "repeated-total 3 11 20 6D B8",
+    ),
+    (
+        Request::Writing(Writing::Build),
+        "build ORDER ALPHABET ROW",
+        "build 2 4 3 1 4 2 1",
+    ),
+    (
+        Request::Index(IndexQuestion::Extract),
+        "extract ORDER ALPHABET LENGTH PLACE INDEX",
+        "extract 2 4 5 2 6B 40",
+    ),
+    (
+        Request::Index(IndexQuestion::Rank),
+        "rank ORDER ALPHABET LENGTH NUMBER PLACE INDEX",
+        "rank 2 4 5 1 3 6B 40",
+    ),
+    (
+        Request::Index(IndexQuestion::Select),
+        "select ORDER ALPHABET LENGTH NUMBER USE INDEX",
+        "select 2 4 5 1 2 6B 40",
+    ),
+    (Request::Listing, "listing ORDER ROW", "listing 2 3 1 4 2 1"),
+    (
+        Request::ListingText,
+        "listing-text TIMES TEXT",
+        "listing-text 1          2$",
+    ),
+    (Request::TableRow, "table-row ONES BYTE", "table-row 1 B7"),
+    (
+        Request::TableValue,
+        "table-value ONES LENGTH BYTE",
+        "table-value 1 4 B7",
+    ),
+    (Request::Help, "help", "help"),
+];
+
+// What may stand before a request that writes, and an example.
+pub const ROOM: (&str, &str) = ("room N REQUEST", "room 3 write 2 3 1 4 2 1");
+
+const NOTES: &str = "\
+ROW: numbers; 1x4096 is 4096 ones. BYTES, INDEX: two hexadecimal digits each; FFx1024 is 1024 times FF.
+ORDER: 2 to 6. ALPHABET: the largest number of an index. FROM, TO, PLACE: from 0; USE: from 1.
+BITS COUNT TOTAL: the header of BYTES: bits in use, how many numbers they hold, and their total.
+STOPPERS: how many byte values, from 0 up, end a codeword of the dense code, 1 to 254.
+REPEATS: 1 to 10000. SHARED: what each repeat has in common with the next, 0 up to the row's total.
+table-..: by the table for order 3. TEXT: input of the listing program; $ is a line feed, ^ a carriage return, ~ a tab.
+preview: what replace would answer; nothing is written. Its buffer begins with BYTES too.
+room N: the output of a request that writes has N elements, and all are shown; that of append and replace begins with BYTES.
+NO n: a refusal, with its number. A line that begins with # is passed over.";
+
+impl Request {
+    // The request that a word names, and its usage.
+    pub fn named(name: &[u8]) -> Option<(Request, &'static str)> {
+        for (request, usage, _) in REQUESTS {
+            if Words::new(usage.as_bytes())
+                .next()
+                .is_some_and(|word| word == name)
+            {
+                return Some((request, usage));
+            }
+        }
+        None
     }
-    if k == texts::BUILD || k == texts::TABLE_VALUE {
-        return 2;
+
+    // The answer to a request whose name these words follow, and the room of whose output may be named. None where the words have another form, or a room is named
+    // and there is no output, or none so large.
+    pub fn answer(self, words: Words, room: Option<usize>, text: &mut Text) -> Option<fmt::Result> {
+        match (self, room) {
+            (Request::Writing(writing), _) => writing.answer(words, room, text),
+            (Request::Reading(reading), _) => reading.answer(words, room, text),
+            (Request::Changing(changing), _) => changing.answer(words, room, text),
+            (_, Some(_)) => None,
+            (Request::Encoding(question), None) => question.answer(words, text),
+            (Request::Index(question), None) => question.answer(words, text),
+            (Request::Codewords, None) => coded::answer(words, text),
+            (Request::Listing, None) => listings::of_row(words, text),
+            (Request::ListingText, None) => listings::of_text(words, text),
+            (Request::TableRow, None) => tables::row(words, text),
+            (Request::TableValue, None) => tables::value(words, text),
+            (Request::Help, None) => help(words, text),
+        }
     }
-    if is_replacement(k) || k == texts::TOTAL || k == texts::REPEATED_TOTAL {
-        return 3;
+}
+
+// The help without its last line feed, which follows every answer.
+fn written(text: &mut Text) -> fmt::Result {
+    writeln!(text, "A request is a line:")?;
+    for (_, usage, example) in REQUESTS {
+        writeln!(text, "    {usage:<48}{example}")?;
     }
-    if k == texts::EXTRACT {
-        return 4;
+    let (usage, example) = ROOM;
+    writeln!(text, "    {usage:<48}{example}")?;
+    write!(text, "{NOTES}")
+}
+
+fn help(mut words: Words, text: &mut Text) -> Option<fmt::Result> {
+    if words.next().is_some() {
+        return None;
     }
-    if k == texts::APPEND || k == texts::RANK || k == texts::SELECT {
-        5
-    } else {
-        1
-    }
-}
-
-// What follows the numbers: a row, bytes, or something else.
-pub fn has_row(k: usize) -> bool {
-    k == texts::CODEWORDS
-        || k == texts::WRITE
-        || k == texts::DENSE_WRITE
-        || k == texts::BUILD
-        || k == texts::LISTING
-}
-
-pub fn has_no_list(k: usize) -> bool {
-    k == texts::LISTING_TEXT || k == texts::HELP_ITSELF
-}
-
-// Whether the bytes that are given stand in a buffer with room behind them: the output begins with them.
-pub fn is_changed(k: usize) -> bool {
-    k == texts::APPEND || is_replacement(k)
-}
-
-// What a request's operation is lent besides: a row or bytes to write to, or to look at in a preview, or nothing.
-pub fn writes_row(k: usize) -> bool {
-    k == texts::READ || k == texts::TABLE_READ || k == texts::DENSE_READ
-}
-
-pub fn writes_bytes(k: usize) -> bool {
-    k == texts::WRITE
-        || k == texts::TABLE_READ_BYTES
-        || k == texts::DENSE_WRITE
-        || is_changed(k)
-        || k == texts::BUILD
-}
-
-// Whether the numbers of a request are such that its operation can be asked: numbers and alphabets have 32 bits, and an order of the listing ten digits.
-pub fn is_fit(k: usize, n: &[u64; 5]) -> bool {
-    if k == texts::APPEND || k == texts::BUILD || k == texts::EXTRACT {
-        return n[1] <= 4294967295;
-    }
-    if is_replacement(k) {
-        return n[2] <= 4294967295;
-    }
-    if k == texts::RANK || k == texts::SELECT {
-        return n[1] <= 4294967295 && n[3] <= 4294967295;
-    }
-    if k == texts::LISTING {
-        return n[0] <= 9999999999;
-    }
-    if k == texts::TABLE_ROW || k == texts::TABLE_VALUE {
-        return n[0] <= 2 && n[1] <= 37;
-    }
-    true
-}
-
-fn narrow(n: u64) -> u32 {
-    (n % 4294967296) as u32
-}
-
-// ## Operations
-
-pub fn write(order: u64, row: &[u32], out: &mut [u8]) -> Answer {
-    answers::of_encoding(encoder::write(order as usize, row, out))
-}
-
-fn dense_write(stoppers: u64, row: &[u32], out: &mut [u8]) -> Answer {
-    answers::of_count(dense_encoder::write(stoppers as usize, row, out))
-}
-
-fn build(n: &[u64; 5], row: &[u32], out: &mut [u8]) -> Answer {
-    answers::of_count(wavelet_build::build(n[0] as usize, narrow(n[1]), row, out))
-}
-
-fn append(n: &[u64; 5], out: &mut [u8]) -> Answer {
-    let header = Header {
-        bits: n[2] as usize,
-        count: n[3] as usize,
-        total: n[4],
-    };
-    answers::of_encoding(appender::append(n[0] as usize, out, header, narrow(n[1])))
-}
-
-fn replace(n: &[u64; 5], used: usize, out: &mut [u8]) -> Answer {
-    let place = n[1] as usize;
-    answers::of_encoding(replacer::replace(n[0] as usize, out, used, place, narrow(n[2])))
-}
-
-fn preview(n: &[u64; 5], used: usize, buf: &[u8]) -> Answer {
-    let place = n[1] as usize;
-    answers::of_encoding(replacer::preview(n[0] as usize, buf, used, place, narrow(n[2])))
-}
-
-pub fn into_bytes(k: usize, n: &[u64; 5], row: &[u32], s: &[u8], out: &mut [u8]) -> Answer {
-    if k == texts::WRITE {
-        return write(n[0], row, out);
-    }
-    if k == texts::DENSE_WRITE {
-        return dense_write(n[0], row, out);
-    }
-    if k == texts::BUILD {
-        return build(n, row, out);
-    }
-    if k == texts::APPEND {
-        return append(n, out);
-    }
-    if k == texts::REPLACE {
-        return replace(n, s.len(), out);
-    }
-    if k == texts::PREVIEW {
-        return preview(n, s.len(), out);
-    }
-    answers::of_count(table_decoder::read_bytes(s, out))
-}
-
-fn read(order: u64, s: &[u8], out: &mut [u32]) -> Answer {
-    answers::of_count(decoder::read(order as usize, s, out))
-}
-
-fn dense_read(stoppers: u64, s: &[u8], out: &mut [u32]) -> Answer {
-    answers::of_count(dense_decoder::read(stoppers as usize, s, out))
-}
-
-pub fn into_row(k: usize, n: &[u64; 5], s: &[u8], out: &mut [u32]) -> Answer {
-    if k == texts::READ {
-        return read(n[0], s, out);
-    }
-    if k == texts::DENSE_READ {
-        return dense_read(n[0], s, out);
-    }
-    answers::of_count(table_decoder::read(s, out))
-}
-
-fn header(order: u64, s: &[u8]) -> Answer {
-    answers::of_header(header_reader::read(order as usize, s))
-}
-
-fn total(n: &[u64; 5], s: &[u8]) -> Answer {
-    answers::of_total(totals::total(n[0] as usize, s, n[1] as usize, n[2] as usize))
-}
-
-fn repeated_total(n: &[u64; 5], s: &[u8]) -> Answer {
-    answers::of_total(totals::repeated_total(n[0] as usize, s, n[1], n[2]))
-}
-
-fn extract(n: &[u64; 5], s: &[u8]) -> Answer {
-    answers::of_question(wavelet_query::extract(
-        n[0] as usize,
-        narrow(n[1]),
-        n[2] as usize,
-        s,
-        n[3] as usize,
-    ))
-}
-
-fn rank(n: &[u64; 5], s: &[u8]) -> Answer {
-    answers::of_question(wavelet_query::rank(
-        n[0] as usize,
-        narrow(n[1]),
-        n[2] as usize,
-        s,
-        narrow(n[3]),
-        n[4] as usize,
-    ))
-}
-
-fn select(n: &[u64; 5], s: &[u8]) -> Answer {
-    answers::of_question(wavelet_query::select(
-        n[0] as usize,
-        narrow(n[1]),
-        n[2] as usize,
-        s,
-        narrow(n[3]),
-        n[4] as usize,
-    ))
-}
-
-// What only reads.
-pub fn ask(k: usize, n: &[u64; 5], s: &[u8]) -> Answer {
-    if k == texts::HEADER {
-        return header(n[0], s);
-    }
-    if k == texts::TOTAL {
-        return total(n, s);
-    }
-    if k == texts::REPEATED_TOTAL {
-        return repeated_total(n, s);
-    }
-    if k == texts::EXTRACT {
-        return extract(n, s);
-    }
-    if k == texts::RANK {
-        return rank(n, s);
-    }
-    select(n, s)
-}
-
-// ## The table of the table decoder
-
-// Its row for a byte after so many ones, and what the row's bits are worth after so many others.
-pub fn table_row(n: &[u64; 5], b: u8) -> [u64; 10] {
-    let heads = byte_table::heads();
-    let tails = byte_table::tails();
-    let r = byte_table::look_up(&heads, &tails, (n[0] % 3) as usize * 256 + b as usize);
-    [
-        r.count as u64,
-        r.len as u64,
-        r.coef0,
-        r.coef1,
-        r.coef2,
-        wide(r.second),
-        wide(r.third),
-        r.rest.len as u64,
-        r.rest.value,
-        r.rest.ones as u64,
-    ]
-}
-
-pub fn table_value(n: &[u64; 5], b: u8) -> u64 {
-    let heads = byte_table::heads();
-    let tails = byte_table::tails();
-    let r = byte_table::look_up(&heads, &tails, (n[0] % 3) as usize * 256 + b as usize);
-    let positions = byte_table::positions_from_minus_two();
-    byte_table::moved(&positions, (n[1] % 38) as usize, r.coef0, r.coef1, r.coef2)
+    Some(written(text))
 }

@@ -1,35 +1,18 @@
--- What is told of the row of an encoding, and how far a step through it leads.
-use Rattle.std.specs.Prelude.{◌≡◌, List, [], ◌∷◌, ◌++◌, ℕ, ◌+◌, ◌<◌, length, take}
-use Rattle.std.proofs.Math.Seq.{slice}
-use Rattle.lists.specs.Lists.{sum}
+-- How far a step through an encoding leads.
+use Rattle.std.specs.Prelude.{◌≡◌, List, [], ◌∷◌, ℕ, ◌<◌, Option, None, Some, Ok, Err}
 use Rattle.bits.specs.Bits.{unpack}
-use Rattle.fibonacci.specs.Encoding.{row_bits}
-use Rattle.calls.specs.Calls.{Outcome, accepted, refused}
+use Rattle.calls.specs.Calls.{Outcome}
 use Rattle.calls.specs.Limits.{max_count}
 use Rattle.calls.specs.Reading.{contents}
 use Rattle.reading.specs.Reading.{fibonacci}
-use Rattle.word_decoder.specs.Leaves.{DecodedPrefix}
-use Rattle.decoder.specs.declared.Step.{Step}
-use Rattle.decoder.specs.declared.Step.TheVariants as step
-use Rattle.decoder.specs.declared.Summary.{Summary}
-use Rattle.decoder.specs.declared.SpanAnswer.{SpanAnswer}
-use Rattle.decoder.specs.declared.SpanAnswer.TheVariants as span
+use Rattle.word_decoder.specs.Leaves.{Taken, DecodedPrefix}
 
--- How many numbers, how many bits, the sum of those from one place up to but without another, the sum of all, and the bit where the one place begins, or
--- the end of the row where it has no such place
-abbrev pub summary : ℕ → ℕ → ℕ → List ℕ → Summary
-summary m from to row =
-    record { count = length row; bits = length (row_bits m row); total = sum (slice from to row); all = sum row; start = length (row_bits m (take from row)) }
+-- Where a step leads from the `count` numbers of a row, which end at a bit: to another number and the bit after its codeword, or to the end of the row, or the
+-- bytes are refused
+abbrev pub Stepped : ℕ → ℕ → List ℕ → ℕ → ℕ → List ℕ → Outcome (Option (ℕ × ℕ)) → Type 0
+Stepped m limit s bit count row (Ok (Some x)) = (count < max_count) × Taken m limit (unpack s) bit x.1 (x.0 ∷ [])
+Stepped m limit s bit count row (Ok None) = contents (fibonacci m) limit s ≡ Ok row
+Stepped m limit s bit count row (Err r) = contents (fibonacci m) limit s ≡ Err r
 
-abbrev pub span_outcome : SpanAnswer → Outcome Summary
-span_outcome (span.Row f) = accepted f
-span_outcome (span.Refused r) = refused r
-
--- Where a step leads from the `count` numbers of a row, which end at a bit: to another number, or to the end of the row, or the bytes are refused
-abbrev pub Stepped : ℕ → ℕ → List ℕ → ℕ → List ℕ → Step → Type 0
-Stepped m limit s count row (step.Number n bit) = (count < max_count) × DecodedPrefix m limit (unpack s) bit (count + 1) (row ++ (n ∷ []))
-Stepped m limit s count row step.End = contents (fibonacci m) limit s ≡ accepted row
-Stepped m limit s count row (step.Refused r) = contents (fibonacci m) limit s ≡ refused r
-
-abbrev pub Leads : ℕ → ℕ → List ℕ → ℕ → ℕ → Step → Type 0
-Leads m limit s bit count r = (row : List ℕ) → DecodedPrefix m limit (unpack s) bit count row → Stepped m limit s count row r
+abbrev pub Leads : ℕ → ℕ → List ℕ → ℕ → ℕ → Outcome (Option (ℕ × ℕ)) → Type 0
+Leads m limit s bit count r = (row : List ℕ) → DecodedPrefix m limit (unpack s) bit count row → Stepped m limit s bit count row r

@@ -10,7 +10,6 @@ use borrow.Author.Tests.{lt-leb}
 use Rattle.lists.proofs.Each.{all_same}
 use Rattle.bits.specs.Bits.{Bytes}
 use Rattle.codes.specs.Parse.{rest}
-use Rattle.calls.specs.Calls.{accepted}
 use Rattle.calls.specs.Limits.{is_number, Legal, max_number, max_count}
 use Rattle.calls.specs.Reading.{contents, decode, check_finished}
 use Rattle.calls.proofs.Checks.{number_is, is-number, positive}
@@ -31,6 +30,7 @@ use Rattle.dense_decoder.specs.Reading.{dense, read_dense, read_dense_into}
 use Rattle.dense_decoder.proofs.Reading.{decode_is, decoded-rest, read_is, read-row}
 use Rattle.demands.specs.Readers.{ReturnsParse}
 use Rattle.demands.specs.Dense.{DenseCode, DenseRoundTrip, DenseLengths, DenseExamples, DenseDemand}
+use Rattle.std.specs.Prelude.{Ok}
 
 dense-code : (s c : ℕ) → 1 ≤ s → 1 ≤ c → DenseCode s c
 dense-code s c ps pc =
@@ -56,7 +56,7 @@ module _ (s : ℕ) where
   c = continuers s
 
   -- reading what was written
-  decode-encoding : (row : List ℕ) → Stoppers s → length row ≤ max_count → Legal max_number row → decode (dense s) max_number (encoding s c row) ≡ accepted row
+  decode-encoding : (row : List ℕ) → Stoppers s → length row ≤ max_count → Legal max_number row → decode (dense s) max_number (encoding s c row) ≡ Ok row
   decode-encoding row o l a =
       let pc : 1 ≤ c = omega (arith, o) in
       let p = positive max_number row a in
@@ -70,37 +70,37 @@ module _ (s : ℕ) where
         finished = lt-leb 1 (length (rest (parse s (encoding s c row)))) none;
       })
 
-  written : (row before : List ℕ) (bytes : ℕ) → write_dense s row (length before) ≡ accepted bytes → take bytes (write_dense_into s row before) ≡ encoding s c row
+  written : (row before : List ℕ) (bytes : ℕ) → write_dense s row (length before) ≡ Ok bytes → take bytes (write_dense_into s row before) ≡ encoding s c row
   written row before bytes e =
       let i = write-is s row (length before) bytes e in
       ap₂ take i.1 (write-into s row before i.0) ∙ take-append_seam (encoding s c row) _
 
-  written_read : (row before out : List ℕ) (bytes : ℕ) → write_dense s row (length before) ≡ accepted bytes → length row ≤ length out
+  written_read : (row before out : List ℕ) (bytes : ℕ) → write_dense s row (length before) ≡ Ok bytes → length row ≤ length out
       → let b = take bytes (write_dense_into s row before) in
-      (read_dense s b (length out) ≡ accepted (length row)) × (read_dense_into s b out ≡ row ++ drop (length row) out)
+      (read_dense s b (length out) ≡ Ok (length row)) × (read_dense_into s b out ≡ row ++ drop (length row) out)
   written_read row before out bytes e l =
       let w = (write-is s row (length before) bytes e).0 in
       let o = stoppers-is s w.asked in
       rw (written row before bytes e) (read-row s (encoding s c row) out o row (decode-encoding row o w.count w.legal) l)
 
   -- writing what was read
-  decoded-encoding : (b row : List ℕ) → Stoppers s → Bytes b → decode (dense s) max_number b ≡ accepted row → b ≡ encoding s c row
+  decoded-encoding : (b row : List ℕ) → Stoppers s → Bytes b → decode (dense s) max_number b ≡ Ok row → b ≡ encoding s c row
   decoded-encoding b row o y e =
       let d = decode_is s max_number b row e in
       let pc : 1 ≤ c = omega (arith, o) in
       rw d.is (sym (numbers-bytes s c o.0 pc b (bytes_below s b o.1 y) (decoded-rest s max_number b row d)))
 
-  decoded-written : (b row before : List ℕ) → Stoppers s → Bytes b → decode (dense s) max_number b ≡ accepted row → length b ≤ length before
-      → (write_dense s row (length before) ≡ accepted (length b)) × (write_dense_into s row before ≡ b ++ drop (length b) before)
+  decoded-written : (b row before : List ℕ) → Stoppers s → Bytes b → decode (dense s) max_number b ≡ Ok row → length b ≤ length before
+      → (write_dense s row (length before) ≡ Ok (length b)) × (write_dense_into s row before ≡ b ++ drop (length b) before)
   decoded-written b row before o y e l =
       let d = decode_is s max_number b row e in
       let same : b ≡ encoding s c row = decoded-encoding b row o y e in
       let w : Writable (writing s row) (length before) = record { asked = is-stoppers s o; count = d.long; legal = d.legal; fits = omega (arith, ap length same) } in
       rw same (write-accepts s row (length before) w, write-into s row before w)
 
-  read_written : (b out before : List ℕ) (count : ℕ) → Bytes b → read_dense s b (length out) ≡ accepted count → length b ≤ length before
+  read_written : (b out before : List ℕ) (count : ℕ) → Bytes b → read_dense s b (length out) ≡ Ok count → length b ≤ length before
       → let row = take count (read_dense_into s b out) in
-      (write_dense s row (length before) ≡ accepted (length b)) × (write_dense_into s row before ≡ b ++ drop (length b) before)
+      (write_dense s row (length before) ≡ Ok (length b)) × (write_dense_into s row before ≡ b ++ drop (length b) before)
   read_written b out before count y e l =
       let i = read_is s b (length out) count e in
       let row = i.1.0 in
@@ -112,7 +112,7 @@ module _ (s : ℕ) where
   unfolding read_dense read_dense_into
   returns_parse b = called-returns BadStoppers (is_stoppers s) (dense s) max_number b (numbers-positive s c b)
 
-  written_apart : (row other before after : List ℕ) (bytes : ℕ) → write_dense s row (length before) ≡ accepted bytes → write_dense s other (length after) ≡ accepted bytes
+  written_apart : (row other before after : List ℕ) (bytes : ℕ) → write_dense s row (length before) ≡ Ok bytes → write_dense s other (length after) ≡ Ok bytes
       → take bytes (write_dense_into s row before) ≡ take bytes (write_dense_into s other after) → row ≡ other
   written_apart row other before after bytes e f q =
       let w = (write-is s row (length before) bytes e).0 in
@@ -145,19 +145,19 @@ full-count = length-replicate max_count max_number
 stoppers-254 : Stoppers 254
 stoppers-254 = (omega arith, omega arith)
 
-full_written : (room : ℕ) → 102400 ≤ room → write_dense 254 (replicate max_count max_number) room ≡ accepted 102400
+full_written : (room : ℕ) → 102400 ≤ room → write_dense 254 (replicate max_count max_number) room ≡ Ok 102400
 full_written room h =
     write-accepts 254 (replicate max_count max_number) room
     (record { asked = is-stoppers 254 stoppers-254; count = omega (arith, full-count); legal = full-legal; fits = omega (arith, full-bytes max_count) })
-    ∙ ap accepted (full-bytes max_count)
+    ∙ ap Ok (full-bytes max_count)
 
-full_read : (room : ℕ) → max_count ≤ room → read_dense 254 (encoding 254 2 (replicate max_count max_number)) room ≡ accepted max_count
+full_read : (room : ℕ) → max_count ≤ room → read_dense 254 (encoding 254 2 (replicate max_count max_number)) room ≡ Ok max_count
 full_read room h =
     let row : List ℕ = replicate max_count max_number in
     let zeros : List ℕ = replicate room 0 in
     let out : length zeros ≡ room = length-replicate room 0 in
     let r = read-row 254 (encoding 254 2 row) zeros stoppers-254 row (decode-encoding 254 row stoppers-254 (omega (arith, full-count)) full-legal) (omega (arith, full-count, out)) in
-    ap (read_dense 254 (encoding 254 2 row)) (sym out) ∙ r.0 ∙ ap accepted full-count
+    ap (read_dense 254 (encoding 254 2 row)) (sym out) ∙ r.0 ∙ ap Ok full-count
 
 dense-lengths : DenseLengths
 dense-lengths =

@@ -10,7 +10,7 @@ use Rattle.bits.proofs.Packing.{bytes_take}
 use Rattle.fibonacci.specs.Code.{past, F, value, first, number, size, digits, codeword}
 use Rattle.fibonacci.specs.Encoding.{row_bits, encoding, parse_after, parse, numbers}
 use Rattle.fibonacci.proofs.Rows.{bits-append, encoding-length}
-use Rattle.calls.specs.Calls.{Outcome, accepted}
+use Rattle.calls.specs.Calls.{Outcome}
 use Rattle.calls.specs.Limits.{is_order, Order, is_number, is_outside}
 use Rattle.calls.specs.Reading.{check_finished, contents, decode}
 use Rattle.calls.proofs.Checks.{accepted-one}
@@ -26,6 +26,7 @@ use Rattle.appender.proofs.Appending.{Appendable, append-accepts}
 use Rattle.demands.specs.Headers.{reached, IsTrue, row_of, append_all, HeaderDemand, HeaderExamples}
 use Rattle.demands.proofs.RoundTrip.{decode-encoding, decoded-encoding, front, write-into}
 use Rattle.demands.proofs.Truth.{read-header, header_is, bytes-reached, true-order, true_row, true-within, true_good, true_total, extended-is, legal-begin, longer, appendable, appended_longer, appended_into, true-front, row-front, front_length, written_true}
+use Rattle.std.specs.Prelude.{Ok}
 
 -- ## Number after number
 
@@ -53,11 +54,11 @@ module _ (m : ℕ) (row before : List ℕ) (n : ℕ) (w : Writable (writing m (r
   front-appendable =
       appendable m (front m row before) (header_of m row) n (true-front m row before shorter) (rw (row-front m row before shorter, front_length m row before shorter) w)
 
-  front-append : append m (length (front m row before)) (header_of m row) n ≡ accepted (length (encoding m (row ++ (n ∷ []))), header_of m (row ++ (n ∷ [])))
+  front-append : append m (length (front m row before)) (header_of m row) n ≡ Ok (length (encoding m (row ++ (n ∷ []))), header_of m (row ++ (n ∷ [])))
   front-append =
       append-accepts m (length (front m row before)) (header_of m row) n front-appendable
-      ∙ ap (λ (g : Header). accepted (byte_count g.bits, g)) (extended-is m row n)
-      ∙ ap (λ (k : ℕ). accepted (k, header_of m (row ++ (n ∷ [])))) (sym (encoding-length m (row ++ (n ∷ []))))
+      ∙ ap (λ (g : Header). Ok (byte_count g.bits, g)) (extended-is m row n)
+      ∙ ap (λ (k : ℕ). Ok (k, header_of m (row ++ (n ∷ [])))) (sym (encoding-length m (row ++ (n ∷ []))))
 
   front-into : append_into m (front m row before) (header_of m row) n ≡ front m (row ++ (n ∷ [])) before
   front-into =
@@ -73,23 +74,23 @@ module _ (m : ℕ) (row before : List ℕ) (n : ℕ) (w : Writable (writing m (r
       ∙ write-into m (row ++ (n ∷ [])) b (rw (front_length m row before shorter) w) ∙ ap (λ (l : List ℕ). new ++ l) later
 
 append-all : (m : ℕ) (row ns before : List ℕ) → Writable (writing m (row ++ ns)) (length before)
-    → append_all m (front m row before) (header_of m row) ns ≡ accepted (front m (row ++ ns) before, header_of m (row ++ ns))
-append-all m row [] before w = ap (λ (r : List ℕ). accepted (front m r before, header_of m r)) (sym (append-nil row))
+    → append_all m (front m row before) (header_of m row) ns ≡ Ok (front m (row ++ ns) before, header_of m (row ++ ns))
+append-all m row [] before w = ap (λ (r : List ℕ). Ok (front m r before, header_of m r)) (sym (append-nil row))
 append-all m row (n ∷ ns) before w =
     let later : Writable (writing m ((row ++ (n ∷ [])) ++ ns)) (length before) = rw (append_assoc row (n ∷ []) ns) w in
     let next : Writable (writing m (row ++ (n ∷ []))) (length before) = begin-writable m (row ++ (n ∷ [])) ns (length before) later in
     rw (front-into m row before n next, front-append m row before n next)
-    (append-all m (row ++ (n ∷ [])) ns before later ∙ ap (λ (r : List ℕ). accepted (front m r before, header_of m r)) (append_assoc row (n ∷ []) ns))
+    (append-all m (row ++ (n ∷ [])) ns before later ∙ ap (λ (r : List ℕ). Ok (front m r before, header_of m r)) (append_assoc row (n ∷ []) ns))
 
 -- what writing answers and leaves
-written_all : (m : ℕ) (row before : List ℕ) (bytes : ℕ) (h : Header) → write m row (length before) ≡ accepted (bytes, h)
-    → Writable (writing m row) (length before) × (◌≡◌ {A = Outcome (List ℕ × Header)} (accepted (front m row before, header_of m row)) (accepted (write_into m row before, h)))
+written_all : (m : ℕ) (row before : List ℕ) (bytes : ℕ) (h : Header) → write m row (length before) ≡ Ok (bytes, h)
+    → Writable (writing m row) (length before) × (◌≡◌ {A = Outcome (List ℕ × Header)} (Ok (front m row before, header_of m row)) (Ok (write_into m row before, h)))
 written_all m row before bytes h e =
     let i = write-is m row (length before) bytes h e in
-    (i.0, ap₂ (λ (b : List ℕ) (g : Header). accepted (b, g)) (sym (write-into m row before i.0)) (sym i.2))
+    (i.0, ap₂ (λ (b : List ℕ) (g : Header). Ok (b, g)) (sym (write-into m row before i.0)) (sym i.2))
 
-appended_written : (m : ℕ) (row before : List ℕ) (bytes : ℕ) (h : Header) → write m row (length before) ≡ accepted (bytes, h)
-    → append_all m before no_header row ≡ accepted (write_into m row before, h)
+appended_written : (m : ℕ) (row before : List ℕ) (bytes : ℕ) (h : Header) → write m row (length before) ≡ Ok (bytes, h)
+    → append_all m before no_header row ≡ Ok (write_into m row before, h)
 unfolding encoding pack bytes_of row_bits flatten
 appended_written m row before bytes h e =
     let i = written_all m row before bytes h e in
@@ -106,14 +107,14 @@ true-front-is m before h b e =
     ∙ ap (λ (l : List ℕ). l ++ drop (length l) before) s
 
 appended_all : (m : ℕ) (before ns : List ℕ) (h : Header) (bytes : ℕ) (g : Header) → Bytes before → IsTrue m before h
-    → write m (row_of m before h ++ ns) (length before) ≡ accepted (bytes, g) → append_all m before h ns ≡ accepted (write_into m (row_of m before h ++ ns) before, g)
+    → write m (row_of m before h ++ ns) (length before) ≡ Ok (bytes, g) → append_all m before h ns ≡ Ok (write_into m (row_of m before h ++ ns) before, g)
 appended_all m before ns h bytes g b e w =
     let i = written_all m (row_of m before h ++ ns) before bytes g w in
     ap₂ (λ (buf : List ℕ) (h : Header). append_all m buf h ns) (true-front-is m before h b e) (true_row m before h e) ∙ append-all m (row_of m before h) ns before i.0 ∙ i.1
 
 -- ## All of it
 
-pub read_true : (m : ℕ) (s behind : List ℕ) (h : Header) → read_header m s ≡ accepted h → IsTrue m (s ++ behind) h
+pub read_true : (m : ℕ) (s behind : List ℕ) (h : Header) → read_header m s ≡ Ok h → IsTrue m (s ++ behind) h
 read_true m s behind h e =
     ap (λ (k : ℕ). read_header m (take k (s ++ behind))) (bytes-reached m s h e) ∙ ap (read_header m) (take-append_seam s behind) ∙ e
 
@@ -121,7 +122,7 @@ none_true : (m : ℕ) → Order m → (buf : List ℕ) → IsTrue m buf no_heade
 unfolding encoding pack bytes_of row_bits flatten
 none_true m o buf = read-header m [] [] o (decode-encoding m [] o (omega arith) tt)
 
-appended_true : (m : ℕ) (before : List ℕ) (h : Header) (n bytes : ℕ) (g : Header) → IsTrue m before h → append m (length before) h n ≡ accepted (bytes, g)
+appended_true : (m : ℕ) (before : List ℕ) (h : Header) (n bytes : ℕ) (g : Header) → IsTrue m before h → append m (length before) h n ≡ Ok (bytes, g)
     → IsTrue m (append_into m before h n) g
 appended_true m before h n bytes g e a =
     rw (appended_into m before h n e (bytes, g) a) (written_true m (longer m before h n e) before bytes g ((appended_longer m before h n e (bytes, g)).0 a))

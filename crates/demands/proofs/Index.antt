@@ -10,7 +10,7 @@ use lib.Seq.{take_at}
 use Rattle.bits.specs.Bits.{byte_count}
 use Rattle.bits.proofs.Packing.{pack-length}
 use Rattle.calls.specs.declared.Refusal.TheVariants.{NoRoom, OutsideAlphabet}
-use Rattle.calls.specs.Calls.{Outcome, accepted, buffer}
+use Rattle.calls.specs.Calls.{Outcome, buffer}
 use Rattle.calls.specs.Limits.{Legal}
 use Rattle.calls.proofs.Checks.{check-passed, each-accepted}
 use Rattle.wavelet.specs.Nodes.{tree}
@@ -21,6 +21,7 @@ use Rattle.wavelet.proofs.Nodes.{tree-under, tree-has, tree-only, nodes_are, nod
 use Rattle.wavelet.proofs.Rows.{index_row, row_index, one_row}
 use Rattle.wavelet.proofs.Answering.{tree-accepted, tree-legal, legal-order, legal-alphabet}
 use Rattle.demands.specs.Index.{extract_of, rank_of, select_of, IndexDemand, AnswersAs, BuiltAnswers}
+use Rattle.std.specs.Prelude.{Ok}
 
 -- the questions asked of bytes that are the index of a row
 module _ (m N : ℕ) (row s : List ℕ) (good : is_index m N (length row) s ≡ true) (same : row_of_index m N (length row) s ≡ row) where
@@ -58,13 +59,13 @@ index-demand m N two h =
 
 -- ## What building has written
 
-module _ (m N : ℕ) (row before : List ℕ) (bits : ℕ) (e : build m N row (length before) ≡ accepted bits) where
+module _ (m N : ℕ) (row before : List ℕ) (bits : ℕ) (e : build m N row (length before) ≡ Ok bits) where
   passed : Passed m N (length row) × Legal N row × (bits ≡ length (bitmaps m N row))
   unfolding build
   passed =
       let t = tree-accepted m N (length row) e in
       let n = each-accepted OutsideAlphabet N 0 row _ bits t.1 in
-      let done : accepted (length (bitmaps m N row)) ≡ accepted bits = (check-passed NoRoom (ltb (length before) (length (index m N row))) _ bits n.1).1 in
+      let done : Ok (length (bitmaps m N row)) ≡ Ok bits = (check-passed NoRoom (ltb (length before) (length (index m N row))) _ bits n.1).1 in
       (t.0, n.0, cc)
 
   -- its bytes are the index

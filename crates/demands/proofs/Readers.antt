@@ -11,7 +11,7 @@ use borrow.Author.Tests.{lt-ltb, le-ltb}
 use Rattle.bits.specs.Bits.{unpack}
 use Rattle.fibonacci.specs.Encoding.{numbers}
 use Rattle.calls.specs.declared.Refusal.TheVariants.{BadOrder, NoRoom}
-use Rattle.calls.specs.Calls.{accepted, check}
+use Rattle.calls.specs.Calls.{check}
 use Rattle.calls.specs.Limits.{is_order, max_number}
 use Rattle.calls.specs.Reading.{decode}
 use Rattle.calls.proofs.Checks.{then_same}
@@ -22,6 +22,7 @@ use Rattle.reading.proofs.Decoding.{decode_is, read_is}
 use Rattle.table_decoder.specs.Reading.{read_table, read_table_into, row_bytes, read_bytes, read_bytes_into}
 use Rattle.table_decoder.proofs.Answering.{order-3, table-decode, table-read, table-into, bytes-long}
 use Rattle.demands.specs.Readers.{ReturnsParse, TwoReaders}
+use Rattle.std.specs.Prelude.{Ok}
 
 -- ## The numbers of the parse
 
@@ -48,9 +49,9 @@ bytes_read : (s : List ℕ) (room : ℕ) → read_bytes s room ≡ read 3 s (roo
 unfolding read_bytes read
 bytes_read s room =
     rw (order-3, table-decode s)
-    (then_same (decode (fibonacci 3) max_number s) _ _ (λ row. ap (λ (t : Bool). check NoRoom t (accepted (length row))) (room-bytes room (length row))))
+    (then_same (decode (fibonacci 3) max_number s) _ _ (λ row. ap (λ (t : Bool). check NoRoom t (Ok (length row))) (room-bytes room (length row))))
 
-bytes-written : (s before : List ℕ) (count : ℕ) → read_bytes s (length before) ≡ accepted count
+bytes-written : (s before : List ℕ) (count : ℕ) → read_bytes s (length before) ≡ Ok count
     → (count ≡ length (numbers 3 (unpack s))) × (read_bytes_into s before ≡ row_bytes (numbers 3 (unpack s)) ++ drop (4 * count) before)
 unfolding read_bytes_into
 bytes-written s before count e =

@@ -15,7 +15,6 @@ use Rattle.codes.specs.Parse.{rest}
 use Rattle.fibonacci.specs.Code.{past, F, value, first, number, size, digits, codeword}
 use Rattle.fibonacci.specs.Encoding.{row_bits, encoding, parse_after, parse, numbers}
 use Rattle.fibonacci.proofs.Rows.{bits-append, encoding-length}
-use Rattle.calls.specs.Calls.{accepted}
 use Rattle.calls.specs.Limits.{is_order, Order, is_number, Legal, is_outside, max_number, max_count}
 use Rattle.calls.specs.Reading.{check_finished, contents, decode}
 use Rattle.calls.proofs.Checks.{is-order, legal-at, accepted-one}
@@ -32,6 +31,7 @@ use Rattle.demands.specs.Replacing.{row_in, Replaced, ReplaceDemand, ReplaceExam
 use Rattle.demands.proofs.RoundTrip.{decode-encoding, decoded-encoding}
 use Rattle.demands.proofs.Truth.{read-header, header_is, bytes-reached}
 use Rattle.demands.proofs.Headers.{read_true}
+use Rattle.std.specs.Prelude.{Ok}
 
 -- ## Bytes over others
 
@@ -92,7 +92,7 @@ over-length x u buf h l =
 
 -- ## After an accepted replacement
 
-module _ (m : ℕ) (before : List ℕ) (used p n bytes : ℕ) (h : Header) (e : replace m before used p n ≡ accepted (bytes, h)) where
+module _ (m : ℕ) (before : List ℕ) (used p n bytes : ℕ) (h : Header) (e : replace m before used p n ≡ Ok (bytes, h)) where
   abbrev row : List ℕ
   row = row_in m before used
 
@@ -108,7 +108,7 @@ module _ (m : ℕ) (before : List ℕ) (used p n bytes : ℕ) (h : Header) (e : 
   within : used ≤ length before
   within = (replace-is m before used p n (bytes, h) e).1
 
-  was_read : decode (fibonacci m) max_number (take used before) ≡ accepted row
+  was_read : decode (fibonacci m) max_number (take used before) ≡ Ok row
   was_read = (replace-is m before used p n (bytes, h) e).2
 
   can : Changeable m (length before) row p n
@@ -142,7 +142,7 @@ module _ (m : ℕ) (before : List ℕ) (used p n bytes : ℕ) (h : Header) (e : 
   pub in_use : take bytes after ≡ encoding m new
   in_use = ap₂ take bytes-new after_is ∙ take-append_seam (encoding m new) _
 
-  read-after : decode (fibonacci m) max_number (take bytes after) ≡ accepted new
+  read-after : decode (fibonacci m) max_number (take bytes after) ≡ Ok new
   read-after = ap (decode (fibonacci m) max_number) in_use ∙ decode-encoding m new order new-long new-legal
 
   header_true : IsTrue m after h
@@ -151,7 +151,7 @@ module _ (m : ℕ) (before : List ℕ) (used p n bytes : ℕ) (h : Header) (e : 
       (read_true m (encoding m new) _ (header_of m new) (read-header m (encoding m new) new order (decode-encoding m new order new-long new-legal)))
 
   reads : (out : List ℕ) → h.count ≤ length out
-      → (read m (take bytes after) (length out) ≡ accepted (length new)) × (read_into m (take bytes after) out ≡ new ++ drop (length new) out)
+      → (read m (take bytes after) (length out) ≡ Ok (length new)) × (read_into m (take bytes after) out ≡ new ++ drop (length new) out)
   reads out l = read-row m (take bytes after) out order new read-after (omega (arith, ap (λ (g : Header). g.count) header-new))
 
   -- ## Bits before the place
@@ -189,7 +189,7 @@ module _ (m : ℕ) (before : List ℕ) (used p n bytes : ℕ) (h : Header) (e : 
 
 -- ## Replacing again
 
-module _ (m : ℕ) (before : List ℕ) (used p n bytes : ℕ) (h : Header) (e : replace m before used p n ≡ accepted (bytes, h)) where
+module _ (m : ℕ) (before : List ℕ) (used p n bytes : ℕ) (h : Header) (e : replace m before used p n ≡ Ok (bytes, h)) where
   again : (k : ℕ) → replace m (replace_into m before used p n) bytes p k ≡ replace m before used p k
   unfolding change
   again k =
@@ -203,11 +203,11 @@ module _ (m : ℕ) (before : List ℕ) (used p n bytes : ℕ) (h : Header) (e : 
       replace-read m after bytes p k o long (set row p n) (read-after m before used p n bytes h e) ∙ rw (same, two, count) refl
       ∙ sym (replace-read m before used p k o (within m before used p n bytes h e) row (was_read m before used p n bytes h e))
 
-  module _ (k b : ℕ) (g : Header) (f : replace m before used p k ≡ accepted (b, g)) where
+  module _ (k b : ℕ) (g : Header) (f : replace m before used p k ≡ Ok (b, g)) where
     abbrev last : List ℕ
     last = encoding m (set (row_in m before used) p k)
 
-    twice : replace m (replace_into m before used p n) bytes p k ≡ accepted (b, g)
+    twice : replace m (replace_into m before used p n) bytes p k ≡ Ok (b, g)
     twice = again k ∙ f
 
     -- the row that the second replacement changes
@@ -228,7 +228,7 @@ module _ (m : ℕ) (before : List ℕ) (used p n bytes : ℕ) (h : Header) (e : 
         ∙ ap₂ (λ (j : ℕ) (z : List ℕ). over last j z) lx (after_is m before used p n bytes h e)
         ∙ over-over x last used before (omega (arith, l, lx, bytes-new m before used p k b g f)) ∙ sym (after_is m before used p k b g f)
 
-pub replaced : (m : ℕ) (before : List ℕ) (used p n bytes : ℕ) (h : Header) → replace m before used p n ≡ accepted (bytes, h) → Replaced m before used p n bytes h
+pub replaced : (m : ℕ) (before : List ℕ) (used p n bytes : ℕ) (h : Header) → replace m before used p n ≡ Ok (bytes, h) → Replaced m before used p n bytes h
 replaced m before used p n bytes h e =
     record {
       header_true = header_true m before used p n bytes h e;
@@ -241,29 +241,29 @@ replaced m before used p n bytes h e =
 
 -- ## The same number
 
-module _ (m : ℕ) (before : List ℕ) (used p : ℕ) (h : Header) (l : used ≤ length before) (e : read_header m (take used before) ≡ accepted h) (i : p < h.count) where
+module _ (m : ℕ) (before : List ℕ) (used p : ℕ) (h : Header) (l : used ≤ length before) (e : read_header m (take used before) ≡ Ok h) (i : p < h.count) where
   abbrev held : List ℕ
   held = row_in m before used
 
   same_row : set held p (get_or held p 0) ≡ held
   same_row = set-get_or held p 0
 
-  held-is : Order m × (decode (fibonacci m) max_number (take used before) ≡ accepted held) × (h ≡ header_of m held)
+  held-is : Order m × (decode (fibonacci m) max_number (take used before) ≡ Ok held) × (h ≡ header_of m held)
   held-is = header_is m (take used before) h e
 
   same_bytes : length (encoding m held) ≡ used
   same_bytes =
       encoding-length m held ∙ ap (λ (g : Header). (g.bits + 7) / 8) (sym held-is.2) ∙ bytes-reached m (take used before) h e ∙ length-take-le used before l
 
-  same_number : replace m before used p (get_or held p 0) ≡ accepted (used, h)
+  same_number : replace m before used p (get_or held p 0) ≡ Ok (used, h)
   same_number =
       let d = decode_is m max_number (take used before) held held-is.1 in
       let inside : p < length held = omega (arith, ap (λ (g : Header). g.count) held-is.2) in
       let fits : length (encoding m (set held p (get_or held p 0))) ≤ length before = omega (arith, ap (λ (r : List ℕ). length (encoding m r)) same_row, same_bytes) in
       replace-read m before used p (get_or held p 0) (is-order m held-is.0) l held held-is.1
       ∙ change-accepts m (length before) held p (get_or held p 0) (record { within = inside; legal = legal-at max_number held p d.legal inside; fits = fits })
-      ∙ ap (λ (r : List ℕ). accepted (length (encoding m r), header_of m r)) same_row
-      ∙ ap₂ (λ (k : ℕ) (g : Header). accepted (k, g)) same_bytes (sym held-is.2)
+      ∙ ap (λ (r : List ℕ). Ok (length (encoding m r), header_of m r)) same_row
+      ∙ ap₂ (λ (k : ℕ) (g : Header). Ok (k, g)) same_bytes (sym held-is.2)
 
   same_buffer : Bytes before → replace_into m before used p (get_or held p 0) ≡ before
   same_buffer b =

@@ -13,7 +13,6 @@ use Rattle.bits.proofs.Count.{zeros-none}
 use Rattle.codes.specs.Parse.{rest}
 use Rattle.fibonacci.specs.Encoding.{row_bits, encoding, parse}
 use Rattle.calls.proofs.Checks.{order_is, is-order, positive}
-use Rattle.calls.specs.Calls.{accepted}
 use Rattle.calls.specs.Limits.{Order, Legal, max_number, max_count}
 use Rattle.calls.specs.Reading.{decode}
 use Rattle.fibonacci.proofs.Rows.{encoding-parse, encoding-read, bits-few}
@@ -27,10 +26,11 @@ use Rattle.headers.specs.Headers.{header_of}
 use Rattle.encoder.specs.Writing.{write, write_into}
 use Rattle.encoder.proofs.Writing.{writing, write-is, write-accepts}
 use Rattle.demands.specs.RoundTrip.{RoundTrip}
+use Rattle.std.specs.Prelude.{Ok}
 
 -- ## Reading what was written
 
-pub decode-encoding : (m : ℕ) (row : List ℕ) → Order m → length row ≤ max_count → Legal max_number row → decode (fibonacci m) max_number (encoding m row) ≡ accepted row
+pub decode-encoding : (m : ℕ) (row : List ℕ) → Order m → length row ≤ max_count → Legal max_number row → decode (fibonacci m) max_number (encoding m row) ≡ Ok row
 unfolding encoding
 decode-encoding m row o c a =
     let parse-is = encoding-parse m row (omega arith) (positive max_number row a) in
@@ -48,7 +48,7 @@ decode-encoding m row o c a =
 
 -- ## Writing what was read
 
-pub decoded-encoding : (m : ℕ) (s row : List ℕ) → Order m → Bytes s → decode (fibonacci m) max_number s ≡ accepted row → s ≡ encoding m row
+pub decoded-encoding : (m : ℕ) (s row : List ℕ) → Order m → Bytes s → decode (fibonacci m) max_number s ≡ Ok row → s ≡ encoding m row
 unfolding encoding padding
 decoded-encoding m s row o b e =
     let d = decode_is m max_number s row e in
@@ -75,9 +75,9 @@ pub write-into : (m : ℕ) (row before : List ℕ) → Writable (writing m row) 
 unfolding write_into
 write-into m row before w = rw (write-accepts m row (length before) w) refl
 
-written_read : (m : ℕ) (row before out : List ℕ) (bytes : ℕ) (h : Header) → write m row (length before) ≡ accepted (bytes, h) → length row ≤ length out
+written_read : (m : ℕ) (row before out : List ℕ) (bytes : ℕ) (h : Header) → write m row (length before) ≡ Ok (bytes, h) → length row ≤ length out
     → let s = take bytes (write_into m row before) in
-    (read m s (length out) ≡ accepted (length row)) × (read_into m s out ≡ row ++ drop (length row) out)
+    (read m s (length out) ≡ Ok (length row)) × (read_into m s out ≡ row ++ drop (length row) out)
 written_read m row before out bytes h e l =
     let i = write-is m row (length before) bytes h e in
     let w = i.0 in
@@ -87,8 +87,8 @@ written_read m row before out bytes h e l =
     let r = read-row m (encoding m row) out o row (decode-encoding m row o w.count w.legal) l in
     rw s r
 
-decoded-written : (m : ℕ) (s row before : List ℕ) → Order m → Bytes s → decode (fibonacci m) max_number s ≡ accepted row → length s ≤ length before
-    → (write m row (length before) ≡ accepted (length s, header_of m row)) × (write_into m row before ≡ s ++ drop (length s) before)
+decoded-written : (m : ℕ) (s row before : List ℕ) → Order m → Bytes s → decode (fibonacci m) max_number s ≡ Ok row → length s ≤ length before
+    → (write m row (length before) ≡ Ok (length s, header_of m row)) × (write_into m row before ≡ s ++ drop (length s) before)
 decoded-written m s row before o b e l =
     let d = decode_is m max_number s row e in
     let same : s ≡ encoding m row = decoded-encoding m s row o b e in
@@ -96,9 +96,9 @@ decoded-written m s row before o b e l =
     record { asked = is-order m o; count = d.long; legal = d.legal; fits = omega (arith, ap length same) } in
     rw same (write-accepts m row (length before) w, write-into m row before w)
 
-read_written : (m : ℕ) (s out before : List ℕ) (n : ℕ) → Bytes s → read m s (length out) ≡ accepted n → length s ≤ length before
+read_written : (m : ℕ) (s out before : List ℕ) (n : ℕ) → Bytes s → read m s (length out) ≡ Ok n → length s ≤ length before
     → let row = take n (read_into m s out) in
-    (write m row (length before) ≡ accepted (length s, header_of m row)) × (write_into m row before ≡ s ++ drop (length s) before)
+    (write m row (length before) ≡ Ok (length s, header_of m row)) × (write_into m row before ≡ s ++ drop (length s) before)
 read_written m s out before n b e l =
     let i = read_is m s (length out) n e in
     let row = i.1.0 in

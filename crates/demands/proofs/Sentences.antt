@@ -16,7 +16,6 @@ use Rattle.fibonacci.specs.Code.{past, F, value, first, number, size, digits, co
 use Rattle.fibonacci.specs.Encoding.{row_bits, encoding, parse_after, parse, numbers}
 use Rattle.calls.proofs.Checks.{is-order, number_is, positive}
 use Rattle.calls.specs.declared.Refusal.TheVariants.{TooManyNumbers, TooManyCodewords, FullRow}
-use Rattle.calls.specs.Calls.{accepted, refused}
 use Rattle.calls.specs.Limits.{Order, is_order, is_number, is_outside, Legal, max_number, max_count, check_each}
 use Rattle.calls.specs.Reading.{check_finished, contents, decode}
 use Rattle.fibonacci.proofs.Rows.{encoding-read}
@@ -32,6 +31,7 @@ use Rattle.appender.specs.Appending.{append}
 use Rattle.appender.proofs.Appending.{append-full}
 use Rattle.demands.specs.Pencil.{answer}
 use Rattle.demands.specs.Sentences.{ones_row, Largest, Sentences}
+use Rattle.std.specs.Prelude.{Ok, Err}
 
 -- ## 4,096 ones
 
@@ -69,28 +69,28 @@ module _ (m : ℕ) (o : Order m) where
   full-header =
       ap₂ (λ (b k : ℕ). header b k (sum (ones_row max_count))) (ones-bits m max_count) (ones-length max_count) ∙ ap (header (4096 * m) 4096) (sum_same max_count 1)
 
-  full : (room : ℕ) → 512 * m ≤ room → write m (ones_row max_count) room ≡ accepted (512 * m, header (4096 * m) 4096 4096)
+  full : (room : ℕ) → 512 * m ≤ room → write m (ones_row max_count) room ≡ Ok (512 * m, header (4096 * m) 4096 4096)
   full room h =
       write-accepts m (ones_row max_count) room
       (record { asked = is-order m o; count = omega (arith, ones-length max_count); legal = ones-legal max_count; fits = omega (arith, full-bytes) })
-      ∙ ap₂ (λ (k : ℕ) (h : Header). accepted (k, h)) full-bytes full-header
+      ∙ ap₂ (λ (k : ℕ) (h : Header). Ok (k, h)) full-bytes full-header
 
-  written : (room : ℕ) → write m (ones_row (suc max_count)) room ≡ refused TooManyNumbers
+  written : (room : ℕ) → write m (ones_row (suc max_count)) room ≡ Err TooManyNumbers
   unfolding write
   written room = rw (is-order m o, lt-ltb max_count (length (ones_row (suc max_count))) (omega (arith, ones-length (suc max_count))))
 
-  decoded : decode (fibonacci m) max_number (encoding m (ones_row (suc max_count))) ≡ refused TooManyCodewords
+  decoded : decode (fibonacci m) max_number (encoding m (ones_row (suc max_count))) ≡ Err TooManyCodewords
   decoded =
       decode-contents (fibonacci m) max_number (encoding m (ones_row (suc max_count))) (omega (arith, ones-bytes m (suc max_count)))
       ∙ contents-many (fibonacci m) max_number (encoding m (ones_row (suc max_count))) (ones_row max_count) (ones-legal max_count) 1 []
       (encoding-read m (ones_row (suc max_count)) (omega arith) (positive max_number (ones_row (suc max_count)) (ones-legal (suc max_count))) ∙ ones-more max_count)
       (ones-length max_count)
 
-  read_back : (room : ℕ) → read m (encoding m (ones_row (suc max_count))) room ≡ refused TooManyCodewords
+  read_back : (room : ℕ) → read m (encoding m (ones_row (suc max_count))) room ≡ Err TooManyCodewords
   unfolding read
   read_back room = rw (is-order m o, decoded)
 
-  appended : (room : ℕ) → 512 * m ≤ room → append m room (header_of m (ones_row max_count)) 1 ≡ refused FullRow
+  appended : (room : ℕ) → 512 * m ≤ room → append m room (header_of m (ones_row max_count)) 1 ≡ Err FullRow
   unfolding is_number
   appended room h =
       let bits : 4096 * m ≤ capacity room = capacity-least room (4096 * m) (omega arith) (omega (arith, o)) in

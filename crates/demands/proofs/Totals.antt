@@ -14,7 +14,7 @@ use Rattle.lists.proofs.Each.{all_same}
 use Rattle.lists.proofs.Sums.{sum_same}
 use Rattle.fibonacci.specs.Encoding.{encoding}
 use Rattle.calls.specs.declared.Refusal.TheVariants.{BadOrder, BadSpan, BadRepeats, TooMuchShared}
-use Rattle.calls.specs.Calls.{accepted, check, and_then}
+use Rattle.calls.specs.Calls.{check, and_then}
 use Rattle.calls.specs.Limits.{is_order, Order, is_number, max_number, max_count, within}
 use Rattle.calls.specs.Reading.{decode}
 use Rattle.calls.proofs.Checks.{within_both, is-order, is-number, accepted-one, check-passed, then-passed, check-then, then-then, then_same}
@@ -23,6 +23,7 @@ use Rattle.totals.specs.Totals.{total, repeated_total}
 use Rattle.totals.proofs.Totals.{span_most, row-most, repeats-all, repeats-less, repeats-most}
 use Rattle.demands.specs.Totals.{plain_repeated, largest_row, LargestTotals, TotalsDemand}
 use Rattle.demands.proofs.RoundTrip.{decode-encoding}
+use Rattle.std.specs.Prelude.{Ok}
 
 -- ## What repeats share
 
@@ -34,7 +35,7 @@ none_shared m s r =
     ap (check BadRepeats (not (within 1 10000 r))) (rw (le-ltb (sum row) 0 (omega arith), mul-zero (r - 1), sub-zero (r * sum row)) refl)))
 
 one_repeat : (m : ℕ) (s : List ℕ) (shared : ℕ)
-    → repeated_total m s 1 shared ≡ and_then (plain_repeated m s 1) (λ x. check TooMuchShared (ltb x shared) (accepted x))
+    → repeated_total m s 1 shared ≡ and_then (plain_repeated m s 1) (λ x. check TooMuchShared (ltb x shared) (Ok x))
 unfolding repeated_total plain_repeated
 one_repeat m s shared =
     let d = decode (fibonacci m) max_number s in
@@ -43,22 +44,22 @@ one_repeat m s shared =
     (then-then d _ _ ∙ then_same d _ _ (λ row. rw (one-mul (sum row), zero-mul shared, sub-zero (sum row)) refl)))
 
 -- what passes every check is accepted
-accepts : (m : ℕ) (s row : List ℕ) (r shared : ℕ) → Order m → decode (fibonacci m) max_number s ≡ accepted row → (1 ≤ r) × (r ≤ 10000) → shared ≤ sum row
-    → repeated_total m s r shared ≡ accepted (r * sum row - (r - 1) * shared)
+accepts : (m : ℕ) (s row : List ℕ) (r shared : ℕ) → Order m → decode (fibonacci m) max_number s ≡ Ok row → (1 ≤ r) × (r ≤ 10000) → shared ≤ sum row
+    → repeated_total m s r shared ≡ Ok (r * sum row - (r - 1) * shared)
 unfolding repeated_total
 accepts m s row r shared o d h l = rw (is-order m o, d, le-leb 1 r h.0, le-leb r 10000 h.1, le-ltb (sum row) shared l) refl
 
-all_shared : (m : ℕ) (s row : List ℕ) (r : ℕ) → Order m → decode (fibonacci m) max_number s ≡ accepted row → (1 ≤ r) × (r ≤ 10000)
-    → repeated_total m s r (sum row) ≡ accepted (sum row)
+all_shared : (m : ℕ) (s row : List ℕ) (r : ℕ) → Order m → decode (fibonacci m) max_number s ≡ Ok row → (1 ≤ r) × (r ≤ 10000)
+    → repeated_total m s r (sum row) ≡ Ok (sum row)
 all_shared m s row r o d h =
     let t = sum row in
     let none : (r - 1) * (t - t) ≡ 0 = ap (λ (k : ℕ). (r - 1) * k) (sub_self t) ∙ mul-zero (r - 1) in
     let width : r * t - (r - 1) * t ≡ t = omega (arith, repeats-less r t t h.0 (omega arith)) in
-    accepts m s row r t o d h (omega arith) ∙ ap accepted width
+    accepts m s row r t o d h (omega arith) ∙ ap Ok width
 
 -- and what is accepted has passed every check
-passed : (m : ℕ) (s : List ℕ) (r shared x : ℕ) → repeated_total m s r shared ≡ accepted x
-    → (row : List ℕ) × (decode (fibonacci m) max_number s ≡ accepted row) × ((1 ≤ r) × (r ≤ 10000)) × (shared ≤ sum row) × (r * sum row - (r - 1) * shared ≡ x)
+passed : (m : ℕ) (s : List ℕ) (r shared x : ℕ) → repeated_total m s r shared ≡ Ok x
+    → (row : List ℕ) × (decode (fibonacci m) max_number s ≡ Ok row) × ((1 ≤ r) × (r ≤ 10000)) × (shared ≤ sum row) × (r * sum row - (r - 1) * shared ≡ x)
 unfolding repeated_total
 passed m s r shared x e =
     let o = check-passed BadOrder (not (is_order m)) _ x e in
@@ -67,7 +68,7 @@ passed m s r shared x e =
     let q = check-passed TooMuchShared (ltb (sum d.0) shared) _ x p.1 in
     (d.0, d.1, within_both 1 10000 r (not-false _ p.0), ltb-false _ _ q.0, accepted-one q.1)
 
-exact : (m : ℕ) (s row : List ℕ) (r shared x : ℕ) → decode (fibonacci m) max_number s ≡ accepted row → repeated_total m s r shared ≡ accepted x
+exact : (m : ℕ) (s row : List ℕ) (r shared x : ℕ) → decode (fibonacci m) max_number s ≡ Ok row → repeated_total m s r shared ≡ Ok x
     → x + (r - 1) * shared ≡ r * sum row
 exact m s row r shared x d e =
     let p = passed m s r shared x e in
@@ -76,7 +77,7 @@ exact m s row r shared x d e =
 
 -- ## The largest totals
 
-decode-largest : (m : ℕ) → Order m → decode (fibonacci m) max_number (encoding m largest_row) ≡ accepted largest_row
+decode-largest : (m : ℕ) → Order m → decode (fibonacci m) max_number (encoding m largest_row) ≡ Ok largest_row
 unfolding largest_row
 decode-largest m o =
     decode-encoding m largest_row o (omega (arith, length-replicate max_count max_number))
@@ -88,7 +89,7 @@ largest =
     record {
       span = λ m o.
           let l = length-replicate max_count max_number in
-          rw (is-order m o, decode-largest m o) (ap accepted (ap sum (take_all max_count largest_row (omega arith)) ∙ sum_same max_count max_number));
+          rw (is-order m o, decode-largest m o) (ap Ok (ap sum (take_all max_count largest_row (omega arith)) ∙ sum_same max_count max_number));
       span_most = λ m s a b x e.
           let o = check-passed BadOrder (not (is_order m)) _ x e in
           let d = then-passed (decode (fibonacci m) max_number s) _ x o.1 in
@@ -96,7 +97,7 @@ largest =
           let q = check-passed BadSpan (ltb (length d.0) b) _ x p.1 in
           omega (arith, span_most m s d.0 d.1 a b, accepted-one q.1);
       repeated = λ m o.
-          rw (is-order m o, decode-largest m o) (ap (λ (x : ℕ). check TooMuchShared (ltb x 0) (accepted (10000 * x - 9999 * 0))) (sum_same max_count max_number));
+          rw (is-order m o, decode-largest m o) (ap (λ (x : ℕ). check TooMuchShared (ltb x 0) (Ok (10000 * x - 9999 * 0))) (sum_same max_count max_number));
       repeated_most = λ m s r shared x e.
           let p = passed m s r shared x e in
           let t = sum p.0 in

@@ -18,7 +18,6 @@ use Rattle.fibonacci.specs.Code.{codeword}
 use Rattle.fibonacci.specs.Encoding.{row_bits, encoding, parse, numbers}
 use Rattle.fibonacci.proofs.Rows.{bits-snoc, numbers-bits, encoding-length, encoding-read, bits-few}
 use Rattle.calls.specs.declared.Refusal.TheVariants.{BadOrder}
-use Rattle.calls.specs.Calls.{accepted}
 use Rattle.calls.specs.Limits.{is_order, Order, is_number, Legal, max_number, max_count}
 use Rattle.calls.specs.Reading.{decode}
 use Rattle.calls.proofs.Checks.{order_is, is-order, positive, check-passed, then-passed, accepted-one}
@@ -38,23 +37,24 @@ use Rattle.appender.specs.Appending.{extended, append, append_into}
 use Rattle.appender.proofs.Appending.{Appendable, append-is, append-accepts}
 use Rattle.demands.specs.Headers.{reached, IsTrue, row_of}
 use Rattle.demands.proofs.RoundTrip.{decode-encoding, front, write-into}
+use Rattle.std.specs.Prelude.{Ok}
 
 -- ## Headers that are read
 
 module _ (m : ℕ) (s : List ℕ) where
-  pub read-header : (row : List ℕ) → Order m → decode (fibonacci m) max_number s ≡ accepted row → read_header m s ≡ accepted (header_of m row)
+  pub read-header : (row : List ℕ) → Order m → decode (fibonacci m) max_number s ≡ Ok row → read_header m s ≡ Ok (header_of m row)
   unfolding read_header
   read-header row o e = rw (is-order m o, e) refl
 
-  module _ (h : Header) (e : read_header m s ≡ accepted h) where
+  module _ (h : Header) (e : read_header m s ≡ Ok h) where
     -- the order is in use, and the header is that of the row that is read
-    pub header_is : Order m × (decode (fibonacci m) max_number s ≡ accepted (numbers m (unpack s))) × (h ≡ header_of m (numbers m (unpack s)))
+    pub header_is : Order m × (decode (fibonacci m) max_number s ≡ Ok (numbers m (unpack s))) × (h ≡ header_of m (numbers m (unpack s)))
     unfolding read_header
     header_is =
         let p = check-passed BadOrder (not (is_order m)) _ _ e in
         let t = then-passed (decode (fibonacci m) max_number s) _ _ p.1 in
         let is : t.0 ≡ numbers m (unpack s) = (decode_is m max_number s t.0 t.1).is in
-        (order_is m (not-false _ p.0), t.1 ∙ ap accepted is, sym (accepted-one t.2) ∙ ap (header_of m) is)
+        (order_is m (not-false _ p.0), t.1 ∙ ap Ok is, sym (accepted-one t.2) ∙ ap (header_of m) is)
 
     abbrev row : List ℕ
     row = numbers m (unpack s)
@@ -82,11 +82,11 @@ module _ (m : ℕ) (s : List ℕ) where
 
 -- ## True headers
 
-total-whole : (m : ℕ) (s row : List ℕ) → Order m → decode (fibonacci m) max_number s ≡ accepted row → total m s 0 (length row) ≡ accepted (sum row)
+total-whole : (m : ℕ) (s row : List ℕ) → Order m → decode (fibonacci m) max_number s ≡ Ok row → total m s 0 (length row) ≡ Ok (sum row)
 unfolding total
 total-whole m s row o e =
     rw (is-order m o, e)
-    (simp (le-ltb (length row) 0 (omega arith), le-ltb (length row) (length row) (omega arith)) (ap (λ (l : List ℕ). accepted (sum l)) (take_all (length row) row (omega arith))))
+    (simp (le-ltb (length row) 0 (omega arith), le-ltb (length row) (length row) (omega arith)) (ap (λ (l : List ℕ). Ok (sum l)) (take_all (length row) row (omega arith))))
 
 module _ (m : ℕ) (buf : List ℕ) (h : Header) (e : IsTrue m buf h) where
   pub true-order : Order m
@@ -123,10 +123,10 @@ module _ (m : ℕ) (buf : List ℕ) (h : Header) (e : IsTrue m buf h) where
       }
 
   -- a whole row's total is read off it
-  pub true_total : total m (reached buf h) 0 h.count ≡ accepted h.total
+  pub true_total : total m (reached buf h) 0 h.count ≡ Ok h.total
   true_total =
       ap (λ (g : Header). total m (reached buf h) 0 g.count) true_row ∙ total-whole m (reached buf h) (row_of m buf h) true-order (header_is m (reached buf h) h e).1
-      ∙ sym (ap (λ (g : Header). accepted g.total) true_row)
+      ∙ sym (ap (λ (g : Header). Ok g.total) true_row)
 
 -- ## A number more
 
@@ -189,17 +189,17 @@ module _ (m : ℕ) (before : List ℕ) (h : Header) (n : ℕ) (e : IsTrue m befo
             (omega (arith, longer-bits, bits-few m longer (true-order m before h e) w.legal, w.count));
       }
 
-  pub appended_longer : (x : ℕ × Header) → (append m (length before) h n ≡ accepted x) ↔ (write m longer (length before) ≡ accepted x)
+  pub appended_longer : (x : ℕ × Header) → (append m (length before) h n ≡ Ok x) ↔ (write m longer (length before) ≡ Ok x)
   appended_longer x = (
     λ a.
         let i = append-is m (length before) h n x a in
-        write-accepts m longer (length before) (writable i.0) ∙ ap accepted (sym same_answer ∙ sym i.1),
+        write-accepts m longer (length before) (writable i.0) ∙ ap Ok (sym same_answer ∙ sym i.1),
     λ w.
         let i = write-is m longer (length before) x.0 x.1 w in
-        append-accepts m (length before) h n (appendable i.0) ∙ ap accepted same_answer ∙ (sym (write-accepts m longer (length before) i.0) ∙ w),
+        append-accepts m (length before) h n (appendable i.0) ∙ ap Ok same_answer ∙ (sym (write-accepts m longer (length before) i.0) ∙ w),
   )
 
-  pub appended_into : (x : ℕ × Header) → append m (length before) h n ≡ accepted x → append_into m before h n ≡ write_into m longer before
+  pub appended_into : (x : ℕ × Header) → append m (length before) h n ≡ Ok x → append_into m before h n ≡ write_into m longer before
   unfolding append_into encoding
   appended_into x a =
       let w = writable (append-is m (length before) h n x a).0 in
@@ -228,7 +228,7 @@ module _ (m : ℕ) (row before : List ℕ) (w : Writable (writing m row) (length
   front_length =
       omega (arith, length-append (encoding m row) (drop (length (encoding m row)) before), length-drop (length (encoding m row)) before, w.fits)
 
-pub written_true : (m : ℕ) (row before : List ℕ) (bytes : ℕ) (h : Header) → write m row (length before) ≡ accepted (bytes, h) → IsTrue m (write_into m row before) h
+pub written_true : (m : ℕ) (row before : List ℕ) (bytes : ℕ) (h : Header) → write m row (length before) ≡ Ok (bytes, h) → IsTrue m (write_into m row before) h
 written_true m row before bytes h e =
     let i = write-is m row (length before) bytes h e in
     rw (i.2, write-into m row before i.0) (true-front m row before i.0)

@@ -1,12 +1,11 @@
 -- What paper 02 (R-2) asks of the dense code: exact reading and one writing per row, shown for all s together; and examples.
-use Rattle.std.specs.Prelude.{◌≡◌, true, ◌↔◌, ℕ, suc, ◌+◌, ◌*◌, ◌≤◌, ◌<◌, length, take, drop, replicate}
+use Rattle.std.specs.Prelude.{◌≡◌, true, ◌↔◌, ℕ, suc, ◌+◌, ◌*◌, ◌≤◌, ◌<◌, length, take, drop, replicate, Ok, Err}
 use mathlib.Core.List.{List, [], ◌∷◌, ◌++◌, map, IsPrefix}
 use Rattle.lists.specs.Lists.{All}
 use Rattle.bits.specs.Bits.{Bytes}
 use Rattle.codes.specs.Rows.{Positive}
 use Rattle.codes.specs.Parse.{Parse, parsed, rest}
 use Rattle.calls.specs.declared.Refusal.TheVariants.{TooLarge, BadStoppers, Unfinished}
-use Rattle.calls.specs.Calls.{accepted, refused}
 use Rattle.calls.specs.Limits.{is_number, max_number, max_count}
 use Rattle.dense.specs.Code.{Codeword, first, value, number, codeword}
 use Rattle.dense.specs.Encoding.{encoding, IsParse, parse, numbers}
@@ -39,18 +38,18 @@ pub record DenseCode (s c : ℕ) : Type 0 where
 
 pub record DenseRoundTrip (s : ℕ) : Type 0 where
   -- What writing gives is read, and the row comes back
-  pub written_read : (row before out : List ℕ) (bytes : ℕ) → write_dense s row (length before) ≡ accepted bytes → length row ≤ length out
+  pub written_read : (row before out : List ℕ) (bytes : ℕ) → write_dense s row (length before) ≡ Ok bytes → length row ≤ length out
       → let b = take bytes (write_dense_into s row before) in
-      (read_dense s b (length out) ≡ accepted (length row)) × (read_dense_into s b out ≡ row ++ drop (length row) out)
+      (read_dense s b (length out) ≡ Ok (length row)) × (read_dense_into s b out ≡ row ++ drop (length row) out)
   -- What is read is what writing its row gives: nothing else is accepted
-  pub read_written : (b out before : List ℕ) (count : ℕ) → Bytes b → read_dense s b (length out) ≡ accepted count → length b ≤ length before
+  pub read_written : (b out before : List ℕ) (count : ℕ) → Bytes b → read_dense s b (length out) ≡ Ok count → length b ≤ length before
       → let row = take count (read_dense_into s b out) in
-      (write_dense s row (length before) ≡ accepted (length b)) × (write_dense_into s row before ≡ b ++ drop (length b) before)
+      (write_dense s row (length before) ≡ Ok (length b)) × (write_dense_into s row before ≡ b ++ drop (length b) before)
   -- What is accepted is the numbers of the parse of all the bytes, and their count
   pub returns_parse : ReturnsParse (numbers s (continuers s)) (read_dense s) (read_dense_into s)
   -- Rows whose bytes are the same are the same row
-  pub written_apart : (row other before after : List ℕ) (bytes : ℕ) → write_dense s row (length before) ≡ accepted bytes
-      → write_dense s other (length after) ≡ accepted bytes
+  pub written_apart : (row other before after : List ℕ) (bytes : ℕ) → write_dense s row (length before) ≡ Ok bytes
+      → write_dense s other (length after) ≡ Ok bytes
       → take bytes (write_dense_into s row before) ≡ take bytes (write_dense_into s other after) → row ≡ other
 
 -- "A dense input may have 102,400 bytes"
@@ -59,8 +58,8 @@ pub record DenseLengths : Type 0 where
   pub longest : (s n : ℕ) → Stoppers s → is_number max_number n ≡ true → length (codeword s (continuers s) n) ≤ 25
   pub reached : length (codeword 254 2 max_number) ≡ 25
   -- 4,096 such are written and read
-  pub full_written : (room : ℕ) → 102400 ≤ room → write_dense 254 (replicate max_count max_number) room ≡ accepted 102400
-  pub full_read : (room : ℕ) → max_count ≤ room → read_dense 254 (encoding 254 2 (replicate max_count max_number)) room ≡ accepted max_count
+  pub full_written : (room : ℕ) → 102400 ≤ room → write_dense 254 (replicate max_count max_number) room ≡ Ok 102400
+  pub full_read : (room : ℕ) → max_count ≤ room → read_dense 254 (encoding 254 2 (replicate max_count max_number)) room ≡ Ok max_count
 
 pub record DenseExamples : Type 0 where
   -- the paper's
@@ -71,13 +70,13 @@ pub record DenseExamples : Type 0 where
       (0xFD ∷ []) ∷ (0xFE ∷ 0x00 ∷ []) ∷ (0xFE ∷ 0xFD ∷ []) ∷ (0xFF ∷ 0x00 ∷ []) ∷ (0xFE ∷ 0xFE ∷ 0x00 ∷ []) ∷ []
   pub fewest : map (codeword 1 255) (1 ∷ 2 ∷ 257 ∷ []) ≡ (0x00 ∷ []) ∷ (0x01 ∷ 0x00 ∷ []) ∷ (0x01 ∷ 0x01 ∷ 0x00 ∷ []) ∷ []
   -- 16: s is not 1 to 254
-  pub no_stoppers : (read_dense 0 [] 0 ≡ refused BadStoppers) × (write_dense 0 [] 0 ≡ refused BadStoppers)
-  pub too_many_stoppers : (read_dense 255 [] 0 ≡ refused BadStoppers) × (write_dense 255 [] 0 ≡ refused BadStoppers)
+  pub no_stoppers : (read_dense 0 [] 0 ≡ Err BadStoppers) × (write_dense 0 [] 0 ≡ Err BadStoppers)
+  pub too_many_stoppers : (read_dense 255 [] 0 ≡ Err BadStoppers) × (write_dense 255 [] 0 ≡ Err BadStoppers)
   -- 17, and 7 only at a codeword that is finished, however long
-  pub empty : read_dense 128 [] 0 ≡ accepted 0
-  pub open_short : read_dense 128 (0x80 ∷ []) 1 ≡ refused Unfinished
-  pub open_long : read_dense 128 (replicate 30 0xFF) 1 ≡ refused Unfinished
-  pub long : read_dense 128 (replicate 30 0xFF ++ (0x00 ∷ [])) 1 ≡ refused (TooLarge 0)
+  pub empty : read_dense 128 [] 0 ≡ Ok 0
+  pub open_short : read_dense 128 (0x80 ∷ []) 1 ≡ Err Unfinished
+  pub open_long : read_dense 128 (replicate 30 0xFF) 1 ≡ Err Unfinished
+  pub long : read_dense 128 (replicate 30 0xFF ++ (0x00 ∷ [])) 1 ≡ Err (TooLarge 0)
 
 pub record DenseDemand : Type 0 where
   -- for any s and c from 1 up; operations take c = 256 - s, and refuse other s than 1 to 254

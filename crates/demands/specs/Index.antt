@@ -1,10 +1,10 @@
 -- What holds of the row index for every order m and alphabet N (paper 01, "The row index"; demand 2: the index answers what the row itself would answer).
-use Rattle.std.specs.Prelude.{◌≡◌, Bool, true, false, ◌↔◌, ℕ, suc, ◌≤◌, leb, ltb, eqb, length, get_or, take}
+use Rattle.std.specs.Prelude.{◌≡◌, Bool, true, false, ◌↔◌, ℕ, suc, ◌≤◌, leb, ltb, eqb, length, get_or, take, Ok}
 use mathlib.Core.List.{List, ◌∷◌, ◌++◌, Mem, Nodup}
 use Rattle.bits.specs.Bits.{Bytes, byte_count}
 use Rattle.fibonacci.specs.Code.{ones, runs, number}
 use Rattle.calls.specs.declared.Refusal.TheVariants.{BadPlace, BadUse, OutsideAlphabet, TooFewUses}
-use Rattle.calls.specs.Calls.{Outcome, accepted, check}
+use Rattle.calls.specs.Calls.{Outcome, check}
 use Rattle.calls.specs.Limits.{is_outside, Legal}
 use Rattle.wavelet.specs.Nodes.{is_node, tree, nodes, visits}
 use Rattle.wavelet.specs.Bitmaps.{index, is_index, row_of_index}
@@ -13,20 +13,20 @@ use Rattle.wavelet.specs.Questions.{check_tree, build, build_into, rank_in, sele
 -- ## What a row itself answers, with the visits of the number concerned, and the checks of what is asked for in the paper's order: 10, 8, 12
 
 abbrev pub extract_of : ℕ → ℕ → List ℕ → ℕ → Outcome (ℕ × ℕ)
-extract_of m N row i = check BadPlace (leb (length row) i) (accepted (get_or row i 0, visits m N (get_or row i 0)))
+extract_of m N row i = check BadPlace (leb (length row) i) (Ok (get_or row i 0, visits m N (get_or row i 0)))
 
 abbrev pub rank_of : ℕ → ℕ → List ℕ → ℕ → ℕ → Outcome (ℕ × ℕ)
 rank_of m N row n i =
     check (OutsideAlphabet 0) (is_outside N n)
     (check BadPlace (ltb (length row) i)
-    (accepted (rank_in row n i, visits m N n)))
+    (Ok (rank_in row n i, visits m N n)))
 
 abbrev pub select_of : ℕ → ℕ → List ℕ → ℕ → ℕ → Outcome (ℕ × ℕ)
 select_of m N row n j =
     check (OutsideAlphabet 0) (is_outside N n)
     (check BadUse (eqb j 0)
     (check TooFewUses (ltb (rank_in row n (length row)) j)
-    (accepted (select_in row n j, visits m N n))))
+    (Ok (select_in row n j, visits m N n))))
 
 -- ## The index, for every order and alphabet
 
@@ -56,5 +56,5 @@ pub record AnswersAs (m N : ℕ) (row s : List ℕ) : Type 0 where
   pub selects : (n j : ℕ) → select m N (length row) s n j ≡ select_of m N row n j
 
 abbrev pub BuiltAnswers : Type 0
-BuiltAnswers = (m N : ℕ) (row before : List ℕ) (bits : ℕ) → build m N row (length before) ≡ accepted bits
+BuiltAnswers = (m N : ℕ) (row before : List ℕ) (bits : ℕ) → build m N row (length before) ≡ Ok bits
     → AnswersAs m N row (take (byte_count bits) (build_into m N row before))

@@ -1,10 +1,10 @@
 -- Paper 01, "Knots to check by pencil": P1 to P11 as one table, each line beside what the definitions give.
-use Rattle.std.specs.Prelude.{◌≡◌, Bool, true, false, ℕ, ◌-◌, length, get_or, take, replicate}
+use Rattle.std.specs.Prelude.{◌≡◌, Bool, true, false, ℕ, ◌-◌, length, get_or, take, replicate, Ok}
 use mathlib.Core.List.{List, [], ◌∷◌, ◌++◌, map, flatten}
 use Rattle.lists.specs.Lists.{values_from}
 use Rattle.bits.specs.Bits.{bit_value}
 use Rattle.fibonacci.specs.Code.{value, first, number, codeword}
-use Rattle.calls.specs.Calls.{Outcome, accepted, answer_number, answer_place, answer_results, and_then}
+use Rattle.calls.specs.Calls.{Outcome, answer_number, answer_place, answer_results, and_then}
 use Rattle.headers.specs.declared.Header.{Header}
 use Rattle.reading.specs.Reading.{read, read_into}
 use Rattle.totals.specs.Totals.{total}
@@ -35,25 +35,25 @@ abbrev pub answers : Outcome (List ℕ) → List ℕ → Answer
 answers o output = (answer_number o, answer_place o, answer_results [] o, output)
 
 abbrev pub one : Outcome ℕ → Outcome (List ℕ)
-one o = and_then o (λ x. accepted (x ∷ []))
+one o = and_then o (λ x. Ok (x ∷ []))
 
 abbrev pub two : Outcome (ℕ × ℕ) → Outcome (List ℕ)
-two o = and_then o (λ x. accepted (x.0 ∷ x.1 ∷ []))
+two o = and_then o (λ x. Ok (x.0 ∷ x.1 ∷ []))
 
 -- Of bytes and a header these are the bytes, the bits, the count and the total
 abbrev pub four : Outcome (ℕ × Header) → Outcome (List ℕ)
-four o = and_then o (λ x. accepted (x.0 ∷ x.1.bits ∷ x.1.count ∷ x.1.total ∷ []))
+four o = and_then o (λ x. Ok (x.0 ∷ x.1.bits ∷ x.1.count ∷ x.1.total ∷ []))
 
 -- What the definitions give. Of a codeword these are its bits; of the number of a codeword the first number, the relative number and their sum; of bitmaps the
 -- joined ones, or that of node k in their order
 unfoldable pub answer : Example → Answer
-answer (Codeword m n) = answers (accepted (map bit_value (codeword m n))) []
-answer (Number m w) = answers (accepted (first m (length w - m) ∷ value m 1 (take (length w - m) w) ∷ number m w ∷ [])) []
+answer (Codeword m n) = answers (Ok (map bit_value (codeword m n))) []
+answer (Number m w) = answers (Ok (first m (length w - m) ∷ value m 1 (take (length w - m) w) ∷ number m w ∷ [])) []
 answer (Write m row room) = answers (four (write m row room)) (write_into m row (replicate room 0))
 answer (Read m s room) = answers (one (read m s room)) (read_into m s (replicate room 0))
 answer (Total m s a b) = answers (one (total m s a b)) []
-answer (Bitmaps m N row) = answers (accepted (map bit_value (bitmaps m N row))) []
-answer (Bitmap m N row k) = answers (accepted (map bit_value (bitmap m row (get_or (nodes (tree m N)) k [])))) []
+answer (Bitmaps m N row) = answers (Ok (map bit_value (bitmaps m N row))) []
+answer (Bitmap m N row k) = answers (Ok (map bit_value (bitmap m row (get_or (nodes (tree m N)) k [])))) []
 answer (Build m N row room) = answers (one (build m N row room)) (build_into m N row (replicate room 0))
 answer (Extract m N k s i) = answers (two (extract m N k s i)) []
 answer (Rank m N k s n i) = answers (two (rank m N k s n i)) []

@@ -4,6 +4,7 @@ use mathlib.Core.List.{List, [], ◌∷◌, ◌++◌, append_assoc, flatten}
 use Prim.Native.Nat.{ℕ, ◌+◌, ◌≤◌, ◌<◌}
 use native.Mathlib.Omega.{arith}
 use native.Mathlib.Decide.{dec_le}
+use lib.ListN.{length, get_or}
 use borrow.Author.Tests.{lt-ltb, le-ltb}
 use Rattle.lists.specs.Lists.{All}
 use Rattle.lists.proofs.Each.{all_map}
@@ -72,3 +73,17 @@ pub parse-rest : (s : ℕ) (r : List ℕ) → Rest s r → parse s r ≡ parsed 
 unfolding parse
 parse-rest s [] a = refl
 parse-rest s (x ∷ r) a = parse-go s x r a.0 ∙ ap (push x) (parse-rest s r a.1)
+
+-- bytes of which the last is a stopper, and continuers after them: one codeword or more, and a rest
+pub parse-finished : (s x : ℕ) (b r : List ℕ) → get_or (x ∷ b) (length b) 0 < s → Rest s r
+    → (w : List ℕ) × (ws : List (List ℕ)) × (parse s (x ∷ b) ≡ parsed (w ∷ ws) []) × (parse s ((x ∷ b) ++ r) ≡ parsed (w ∷ ws) r)
+unfolding parse
+parse-finished s x [] r h a = (x ∷ [], [], parse-stop s x [] h, parse-stop s x r h ∙ ap (prepend (x ∷ [])) (parse-rest s r a))
+parse-finished s x (z ∷ b) r h a =
+    let (w, ws, alone, before) = parse-finished s z b r h a in
+    elim (dec_le s x) [
+      | yes g ↦ (x ∷ w, ws, parse-go s x (z ∷ b) g ∙ ap (push x) alone, parse-go s x (z ∷ (b ++ r)) g ∙ ap (push x) before)
+      | no g ↦
+          let l : x < s = omega arith in
+          (x ∷ [], w ∷ ws, parse-stop s x (z ∷ b) l ∙ ap (prepend (x ∷ [])) alone, parse-stop s x (z ∷ (b ++ r)) l ∙ ap (prepend (x ∷ [])) before)
+    ]

@@ -2,8 +2,7 @@
 use Rattle.std.specs.Prelude.{◌≡◌, not, List, ℕ, leb, length}
 use Rattle.codes.specs.Parse.{rest}
 use Rattle.calls.specs.declared.Refusal.TheVariants.{BadStoppers, Unfinished}
-use Rattle.calls.specs.declared.CountAnswer.{CountAnswer}
-use Rattle.calls.specs.Calls.{Outcome, check, and_then, buffer, count_outcome}
+use Rattle.calls.specs.Calls.{Outcome, check, and_then, buffer}
 use Rattle.calls.specs.Limits.{max_number}
 use Rattle.calls.specs.Reading.{Code, decode, counted}
 use Rattle.dense.specs.Encoding.{parse, numbers}
@@ -23,5 +22,5 @@ unfoldable pub read_dense_into : ℕ → List ℕ → List ℕ → List ℕ
 read_dense_into s b before = buffer (read_dense s b (length before)) (numbers s (continuers s) b) before
 
 -- What is promised of the answer, and of the output before and after
-abbrev pub ReadPromise : ℕ → List ℕ → List ℕ → CountAnswer → List ℕ → Type 0
-ReadPromise s b before a after = (count_outcome a ≡ read_dense s b (length before)) × (after ≡ read_dense_into s b before)
+abbrev pub ReadPromise : ℕ → List ℕ → List ℕ → Outcome ℕ → List ℕ → Type 0
+ReadPromise s b before a after = (a ≡ read_dense s b (length before)) × (after ≡ read_dense_into s b before)

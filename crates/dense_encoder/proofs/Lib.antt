@@ -1,3 +1,4 @@
+pub mod Checking
 pub mod Sizes
 pub mod Putting
 pub mod Writing

@@ -1,32 +1,38 @@
 -- The length of a row's encoding: how many numbers reach each length of a codeword.
 use mathlib.Core.Path.{◌≡◌, refl, sym, ap, ◌∙◌}
-use mathlib.Core.Bool.{false}
+use mathlib.Core.Bool.{Bool, cond}
 use mathlib.Core.List.{List, [], ◌∷◌, flatten}
 use Prim.Native.Nat.{ℕ, suc, ◌+◌, ◌-◌, ◌*◌, ◌/◌, ◌%◌, ◌^◌, ◌≤◌, ◌<◌, min}
 use native.Mathlib.Omega.{arith}
-use native.Mathlib.Nat.{pow-zero, pow-suc, mul-le-mul_left, one-le-mul}
+use native.Mathlib.Nat.{zero-add, pow-zero, pow-suc, mul-le-mul_left, one-le-mul}
 use native.Mathlib.Decide.{dec_le}
 use lib.Dec.{leb}
-use lib.ListN.{length, get_or, take, length-append}
+use lib.ListN.{length, length-append}
 use borrow.Author.Tests.{le-leb, lt-leb}
-use Rattle.lists.specs.Lists.{All, filter}
+use Rattle.lists.specs.Lists.{All}
 use Rattle.lists.proofs.Each.{all_map}
-use Rattle.lists.proofs.Filter.{filter-pass, filter-fail, filter_none, pass-next, fail-next}
+use Rattle.std.proofs.lemmas.List.Sums.{sum_by-cons}
 use Rattle.calls.specs.Limits.{Legal, max_number}
 use Rattle.calls.proofs.Checks.{number_is, positive}
 use Rattle.dense.specs.Code.{first, codeword}
 use Rattle.dense.specs.Encoding.{encoding}
+use Rattle.dense.specs.Limits.{Stoppers, continuers}
 use Rattle.dense.proofs.Numbers.{first-up, stem-grows, codeword-good, number-length}
+use Rattle.dense.proofs.Long.{encoding-long}
 use Rattle.dense_encoder.specs.Leaves.{count_from}
 
 -- ## How many numbers are at least so large, number by number
 
-pub count-pass : (low : ℕ) (row : List ℕ) (i : ℕ) → i < length row → low ≤ get_or row i 0 → count_from low (take (i + 1) row) ≡ count_from low (take i row) + 1
-count-pass low row i h g =
-    ap length (pass-next row i 0 h (leb low) (le-leb low (get_or row i 0) g)) ∙ length-append (filter (leb low) (take i row)) (get_or row i 0 ∷ [])
+module _ (low n : ℕ) (row : List ℕ) where
+  count-pass : low ≤ n → count_from low (n ∷ row) ≡ 1 + count_from low row
+  count-pass h = sum_by-cons (λ x. cond (leb low x) 1 0) n row ∙ ap (λ (t : Bool). cond t 1 0 + count_from low row) (le-leb low n h)
 
-pub count-fail : (low : ℕ) (row : List ℕ) (i : ℕ) → i < length row → get_or row i 0 < low → count_from low (take (i + 1) row) ≡ count_from low (take i row)
-count-fail low row i h g = ap length (fail-next row i 0 h (leb low) (lt-leb low (get_or row i 0) g))
+  count-fail : n < low → count_from low (n ∷ row) ≡ count_from low row
+  count-fail h = sum_by-cons (λ x. cond (leb low x) 1 0) n row ∙ rw (lt-leb low n h, zero-add) refl
+
+count-none : (low : ℕ) (row : List ℕ) → All (λ n. n < low) row → count_from low row ≡ 0
+count-none low [] a = refl
+count-none low (n ∷ row) a = count-fail low n row a.0 ∙ count-none low row a.1
 
 -- ## The length of a codeword
 
@@ -82,7 +88,7 @@ module _ (s c : ℕ) (ps : 1 ≤ s) (pc : 1 ≤ c) (k : ℕ) where
   low = first s c k
 
   capped-more : (row : List ℕ) → All (λ n. 1 ≤ n) row → capped s c (suc k) row ≡ capped s c k row + count_from low row
-  unfolding capped filter
+  unfolding capped
   capped-more [] a = refl
   capped-more (n ∷ row) a =
       elim (dec_le low n) [
@@ -91,14 +97,14 @@ module _ (s c : ℕ) (ps : 1 ≤ s) (pc : 1 ≤ c) (k : ℕ) where
               arith,
               capped-more row a.1,
               reaches s c ps pc n k a.0 g,
-              ap length (filter-pass (leb low) n row (le-leb low n g)),
+              count-pass low n row g,
             )
         | no g ↦
             omega (
               arith,
               capped-more row a.1,
               below s c ps pc n k a.0 (omega arith),
-              ap length (filter-fail (leb low) n row (lt-leb low n (omega arith))),
+              count-fail low n row (omega arith),
             )
       ]
 
@@ -108,66 +114,82 @@ module _ (s c : ℕ) (ps : 1 ≤ s) (pc : 1 ≤ c) (k : ℕ) where
   capped-all [] a e = refl
   capped-all (n ∷ row) a e =
       elim (dec_le low n) [
-        | yes g ↦ absurd (omega (arith, ap length (filter-pass (leb low) n row (le-leb low n g))))
+        | yes g ↦ absurd (omega (arith, count-pass low n row g))
         | no g ↦
-            let f : count_from low row ≡ 0 = omega (arith, ap length (filter-fail (leb low) n row (lt-leb low n (omega arith)))) in
+            let f : count_from low row ≡ 0 = omega (arith, count-fail low n row (omega arith)) in
             omega (arith, capped-all row a.1 f, below s c ps pc n k a.0 (omega arith), length-append (codeword s c n) (encoding s c row))
       ]
 
   capped-end : (row : List ℕ) → Legal max_number row → max_number < low → capped s c k row ≡ length (encoding s c row)
   capped-end row a h =
-      let none = all_map _ (λ n. leb low n ≡ false) (λ n q. lt-leb low n (omega (arith, number_is max_number n q))) row a in
-      capped-all row (positive max_number row a) (ap length (filter_none (leb low) row none))
+      capped-all row (positive max_number row a) (count-none low row (all_map _ (λ n. n < low) (λ n q. omega (arith, number_is max_number n q)) row a))
 
 -- ## Measuring a row, length by length
 
 -- so many bytes, at most `reached` of each codeword; the first number that has more is next, and so many numbers have one more
-pub record Sized (s c : ℕ) (row : List ℕ) (bytes next more : ℕ) : Type 0 where
+pub record Sized (s : ℕ) (row : List ℕ) (bytes next more : ℕ) : Type 0 where
   pub reached : ℕ
-  pub is : bytes ≡ capped s c reached row
-  pub span : next ≡ first s c reached
-  pub size : more ≡ s * c ^ reached
+  pub is : bytes ≡ capped s (continuers s) reached row
+  pub span : next ≡ first s (continuers s) reached
+  pub size : more ≡ s * continuers s ^ reached
   pub step : more ≤ 256 * next
   pub some : 1 ≤ more
+  pub stoppers : Stoppers s
+  pub legal : Legal max_number row
 
-pub sized-start : (s c : ℕ) (row : List ℕ) → 1 ≤ s → 1 ≤ c → c ≤ 256 → Sized s c row (length row) (s + 1) (s * c)
+pub sized-start : (s : ℕ) (row : List ℕ) → Stoppers s → Legal max_number row → Sized s row (length row) (s + 1) (s * continuers s)
 unfolding first
-sized-start s c row ps pc h =
+sized-start s row o legal =
+    let c : ℕ = continuers s in
+    let small : c ≤ 256 = omega arith in
+    let some : 1 ≤ c = omega (arith, o) in
     record {
       reached = 1;
       is = sym (capped-one s c row);
       span = omega (arith, ap (λ (x : ℕ). s * x) (pow-zero c));
       size = omega (arith, ap (λ (x : ℕ). s * x) (pow-suc c 0), ap (λ (x : ℕ). s * (x * c)) (pow-zero c));
-      step = omega (arith, mul-le-mul_left s h);
-      some = one-le-mul ps pc;
+      step = omega (arith, mul-le-mul_left s small);
+      some = one-le-mul o.0 some;
+      stoppers = o;
+      legal = legal;
     }
 
-module _ {s c : ℕ} {row : List ℕ} {bytes next more : ℕ} (z : Sized s c row bytes next more) (ps : 1 ≤ s) (pc : 1 ≤ c) (legal : Legal max_number row) where
-  longer : count_from next row ≡ count_from (first s c z.reached) row
-  longer = ap (λ (x : ℕ). count_from x row) z.span
+module _ {s : ℕ} {row : List ℕ} {bytes next more : ℕ} (z : Sized s row bytes next more) where
+  abbrev c : ℕ
+  c = continuers s
 
-  -- so many numbers reach one length more
-  one_more : bytes + count_from next row ≡ capped s c (suc z.reached) row
-  one_more = omega (arith, z.is, longer, capped-more s c ps pc z.reached row (positive max_number row legal))
+  some : 1 ≤ c
+  some = omega (arith, z.stoppers)
 
-  pub sized-few : bytes + count_from next row ≤ length (encoding s c row)
-  sized-few = omega (arith, one_more, capped-few s c (suc z.reached) row)
+  module _ {low longer : ℕ} (at : low ≡ next) (counted : longer ≡ count_from low row) where
+    reaching : longer ≡ count_from (first s c z.reached) row
+    reaching = counted ∙ ap (λ (x : ℕ). count_from x row) (at ∙ z.span)
 
-  pub sized-more : c ≤ 256 → Sized s c row (bytes + count_from next row) (next + more) (more * c)
-  unfolding first
-  sized-more h =
-      record {
-        reached = suc z.reached;
-        is = one_more;
-        span = omega (arith, z.span, z.size);
-        size = omega (arith, ap (λ (x : ℕ). x * c) z.size, ap (λ (x : ℕ). s * x) (pow-suc c z.reached));
-        step = omega (arith, mul-le-mul_left more h);
-        some = one-le-mul z.some pc;
-      }
+    -- so many numbers reach one length more
+    one_more : bytes + longer ≡ capped s c (suc z.reached) row
+    one_more = omega (arith, z.is, reaching, capped-more s c z.stoppers.0 some z.reached row (positive max_number row z.legal))
 
-  -- none reaches it
-  pub sized-none : count_from next row ≡ 0 → bytes ≡ length (encoding s c row)
-  sized-none e = z.is ∙ capped-all s c ps pc z.reached row (positive max_number row legal) (sym longer ∙ e)
+    pub sized-few : bytes + longer ≤ 25 * length row
+    sized-few = omega (arith, one_more, capped-few s c (suc z.reached) row, encoding-long s row z.stoppers.0 z.stoppers.1 z.legal)
+
+    pub sized-more : Sized s row (bytes + longer) (next + more) (more * c)
+    unfolding first
+    sized-more =
+        let small : c ≤ 256 = omega arith in
+        record {
+          reached = suc z.reached;
+          is = one_more;
+          span = omega (arith, z.span, z.size);
+          size = omega (arith, ap (λ (x : ℕ). x * c) z.size, ap (λ (x : ℕ). s * x) (pow-suc c z.reached));
+          step = omega (arith, mul-le-mul_left more small);
+          some = one-le-mul z.some some;
+          stoppers = z.stoppers;
+          legal = z.legal;
+        }
+
+    -- none reaches it
+    pub sized-none : longer ≡ 0 → bytes ≡ length (encoding s c row)
+    sized-none e = z.is ∙ capped-all s c z.stoppers.0 some z.reached row (positive max_number row z.legal) (sym reaching ∙ e)
 
   pub sized-end : max_number < next → bytes ≡ length (encoding s c row)
-  sized-end h = z.is ∙ capped-end s c ps pc z.reached row legal (omega (arith, z.span))
+  sized-end h = z.is ∙ capped-end s c z.stoppers.0 some z.reached row z.legal (omega (arith, z.span))

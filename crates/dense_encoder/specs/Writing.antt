@@ -1,8 +1,7 @@
 -- Writing a row in the dense code (paper 02, R-2). The checks stand in the paper's order.
 use Rattle.std.specs.Prelude.{◌≡◌, not, List, ℕ, ltb, length}
 use Rattle.calls.specs.declared.Refusal.TheVariants.{BadNumber, TooManyNumbers, BadStoppers}
-use Rattle.calls.specs.declared.CountAnswer.{CountAnswer}
-use Rattle.calls.specs.Calls.{Outcome, check, buffer, count_outcome}
+use Rattle.calls.specs.Calls.{Outcome, check, buffer}
 use Rattle.calls.specs.Limits.{max_number, max_count, check_each}
 use Rattle.calls.specs.Reading.{counted}
 use Rattle.dense.specs.Encoding.{encoding}
@@ -22,5 +21,5 @@ unfoldable pub write_dense_into : ℕ → List ℕ → List ℕ → List ℕ
 write_dense_into s row before = buffer (write_dense s row (length before)) (encoding s (continuers s) row) before
 
 -- What is promised of the answer, and of the output before and after
-abbrev pub WritePromise : ℕ → List ℕ → List ℕ → CountAnswer → List ℕ → Type 0
-WritePromise s row before a after = (count_outcome a ≡ write_dense s row (length before)) × (after ≡ write_dense_into s row before)
+abbrev pub WritePromise : ℕ → List ℕ → List ℕ → Outcome ℕ → List ℕ → Type 0
+WritePromise s row before a after = (a ≡ write_dense s row (length before)) × (after ≡ write_dense_into s row before)

@@ -1,36 +1,31 @@
 // Writing a row in the (s, c)-dense code of bytes, s from 1 to 254 and c the rest.
 #![tactic(auto)]
 
-ghost use Rattle.std.specs.Prelude.{◌≡◌, ◌++◌, ◌/◌, ◌%◌, ◌≤◌, length, drop};
+ghost use Rattle.std.specs.Prelude.{◌≡◌, ◌++◌, ◌+◌, ◌/◌, ◌%◌, ◌≤◌, length, take};
 ghost use Rattle.calls.specs.declared.Refusal.TheVariants.{BadNumber};
-ghost use Rattle.calls.specs.Calls.{accepted, count_outcome};
-ghost use Rattle.calls.specs.Limits.{max_count, check_each};
+ghost use Rattle.calls.specs.Limits.{max_number, max_count, check_each};
 ghost use Rattle.dense.specs.Code.{codeword};
 ghost use Rattle.dense.specs.Encoding.{encoding};
-ghost use Rattle.dense.specs.Limits.{Stoppers, continuers};
+ghost use Rattle.dense.specs.Limits.{continuers};
 ghost use Rattle.dense_encoder.specs.Writing.{write_dense, WritePromise};
-ghost use Rattle.dense_encoder.specs.Leaves.{count_from, Checked, PutBefore, Fits};
+ghost use Rattle.dense_encoder.specs.Leaves.{count_from, Checked};
 
-use calls::{CountAnswer, Refusal};
-
-#[derive(Clone, Copy)]
-struct Divided {
-    quotient: u32,
-    remainder: u32,
-}
+use calls::Refusal;
+use dense::Stoppers;
 
 // ## Measuring
 
-// The check of each number of a row; the count is the row's.
-fn check_each(row: &[u32], limit: u64) -> CountAnswer
-    ensures { count_outcome result ≡ check_each BadNumber limit 0 row.now (accepted (length row.now)) }
+// The check of each number of a row.
+fn check_each(row: &[u32]) -> Result<(), Refusal>
+    ensures { result ≡ check_each BadNumber max_number 0 row.now (Ok tt) }
 {
-    for i in 0..row.len() {
-        if !calls::is_number(calls::wide(row[i]), limit) {
-            return CountAnswer::Refused(Refusal::BadNumber(i));
-        }
+    let first = row
+        .iter()
+        .position(|&n| !calls::is_number(u64::from(n), calls::MAX_NUMBER));
+    match first {
+        Some(place) => Err(Refusal::BadNumber(place)),
+        None => Ok(()),
     }
-    CountAnswer::Count(row.len())
 }
 
 // How many numbers of a row are at least so large. Compiled, it goes without a branch, several numbers at once. Requires: a row that is not too long, which
@@ -39,124 +34,98 @@ fn count_from(row: &[u32], low: u32) -> u32
     requires { length row.now ≤ max_count }
     ensures { result ≡ count_from low row.now }
 {
-    let mut count: u32 = 0;
-    for i in 0..row.len() {
-        if low <= row[i] {
-            count += 1;
-        }
-    }
-    count
+    row.iter().map(|&n| u32::from(low <= n)).sum()
 }
 
 // How many bytes the codewords of a row have: one each, and one more for each length that a number reaches; `next` is the first number of the next length,
-// and `more` is how many have that length. Requires: s from 1 to 254 and a row that has passed its checks, which `write` and `plan` see to.
-fn size(stoppers: u64, row: &[u32]) -> usize
-    requires { Stoppers stoppers × Checked row.now }
-    ensures { result ≡ length (encoding stoppers (continuers stoppers) row.now) }
+// and `more` is how many have that length. Requires: a row that has passed its checks, which `plan` makes.
+fn size(stoppers: Stoppers, row: &[u32]) -> usize
+    requires { Checked row.now }
+    ensures { result ≡ length (encoding stoppers.s (continuers stoppers.s) row.now) }
 {
-    let continuers = 256 - stoppers;
+    let (s, c) = (u64::from(stoppers.s()), u64::from(stoppers.continuers()));
     let mut bytes = row.len();
-    let mut next = stoppers + 1;
-    let mut more = stoppers * continuers;
-    while next <= calls::MAX_NUMBER {
-        let longer = count_from(row, next as u32);
+    let mut next = s + 1;
+    let mut more = s * c;
+    while let Ok(low) = u32::try_from(next) {
+        let longer = count_from(row, low);
         if longer == 0 {
             return bytes;
         }
         bytes += longer as usize;
         next += more;
-        more *= continuers;
+        more *= c;
     }
     bytes
 }
 
-// What writing a row to an output of so many bytes answers: all that is to be decided before the output may be touched. Requires: s from 1 to 254, which
-// `write` checks.
-fn plan(stoppers: u64, row: &[u32], room: usize) -> CountAnswer
-    requires { Stoppers stoppers }
-    ensures { count_outcome result ≡ write_dense stoppers row.now room }
+// What writing a row to an output of so many bytes answers: all that is to be decided before the output may be touched.
+fn plan(stoppers: Stoppers, row: &[u32], room: usize) -> Result<usize, Refusal>
+    ensures { result ≡ write_dense stoppers.s row.now room }
 {
     if row.len() > calls::MAX_COUNT {
-        return CountAnswer::Refused(Refusal::TooManyNumbers);
+        return Err(Refusal::TooManyNumbers);
     }
-    let checked = check_each(row, calls::MAX_NUMBER);
-    match checked {
-        CountAnswer::Refused(r) => CountAnswer::Refused(r),
-        CountAnswer::Count(_) => {
-            let bytes = size(stoppers, row);
-            if room < bytes {
-                return CountAnswer::Refused(Refusal::NoRoom);
-            }
-            CountAnswer::Count(bytes)
-        }
+    check_each(row)?;
+    let bytes = size(stoppers, row);
+    if room < bytes {
+        return Err(Refusal::NoRoom);
     }
+    Ok(bytes)
 }
 
 // ## Putting
 
-// A number by a base: a division only where it is not below the base. Requires: a base from 1 up, which `put_codeword` shows of s
-// and of c.
-fn divide(x: u32, base: u32) -> Divided
+// A number by a base, its quotient and its remainder: a division only where it is not below the base. Requires: a base from 1 up, which `put_codeword` shows
+// of s and of c.
+fn divide(x: u32, base: u32) -> (u32, u32)
     requires { 1 ≤ base }
-    ensures { (result.quotient ≡ x / base) × (result.remainder ≡ x % base) }
+    ensures { (result.0 ≡ x / base) × (result.1 ≡ x % base) }
 {
     if x < base {
-        Divided {
-            quotient: 0,
-            remainder: x,
-        }
+        (0, x)
     } else {
-        Divided {
-            quotient: x / base,
-            remainder: x % base,
-        }
+        (x / base, x % base)
     }
 }
 
-// The codeword of n before place `end` of a buffer, its last byte first; the result is where it begins. Requires: s from 1 to 254, a number from 1 up, and
-// room before the place, which `put_row` shows.
-fn put_codeword(out: &mut [u8], end: usize, stoppers: u32, n: u32) -> usize
-    requires { Stoppers stoppers × (1 ≤ n) × (length (codeword stoppers (continuers stoppers) n) ≤ end) × (end ≤ length out.old) }
-    ensures { PutBefore (codeword stoppers (continuers stoppers) n) end result out.old out.new }
+// The codeword of n at the end of a buffer, its last byte first; the result is where it begins. Requires: a number from 1 up, and room for its codeword, which
+// `put_row` shows.
+fn put_codeword(out: &mut [u8], stoppers: Stoppers, n: u32) -> usize
+    requires { (1 ≤ n) × (length (codeword stoppers.s (continuers stoppers.s) n) ≤ length out.old) }
+    ensures { let w = codeword stoppers.s (continuers stoppers.s) n in (result + length w ≡ length out.old) × (out.new ≡ take result out.old ++ w) }
 {
-    let continuers = 256 - stoppers;
-    let last = divide(n - 1, stoppers);
-    let mut at = end - 1;
-    out[at] = last.remainder as u8;
-    let mut y = last.quotient;
+    let (s, c) = (stoppers.s(), stoppers.continuers());
+    let (mut y, last) = divide(n - 1, s);
+    let mut at = out.len() - 1;
+    out[at] = last as u8;
     while 0 < y {
-        let more = divide(y - 1, continuers);
+        let (before, digit) = divide(y - 1, c);
         at -= 1;
-        out[at] = (stoppers + more.remainder) as u8;
-        y = more.quotient;
+        out[at] = (s + digit) as u8;
+        y = before;
     }
     at
 }
 
-// The codewords of a row from the front of a buffer, the last one first: where each begins is known only from its end. Requires: s from 1 to 254, a row that
-// has passed its checks, so many bytes for its codewords, and room for them, which `write` and `plan` see to.
-fn put_row(out: &mut [u8], bytes: usize, stoppers: u32, row: &[u32])
-    requires { Fits stoppers row.now bytes (length out.old) }
-    ensures { out.new ≡ encoding stoppers (continuers stoppers) row.now ++ drop bytes out.old }
+// The codewords of a row in a buffer, the last one first: where each begins is known only from its end. Requires: a row that has passed its checks, and a
+// buffer of exactly so many bytes, which `write` sees to.
+fn put_row(out: &mut [u8], stoppers: Stoppers, row: &[u32])
+    requires { Checked row.now × (length out.old ≡ length (encoding stoppers.s (continuers stoppers.s) row.now)) }
+    ensures { out.new ≡ encoding stoppers.s (continuers stoppers.s) row.now }
 {
-    let mut at = bytes;
-    let mut i = row.len();
-    while 0 < i {
-        i -= 1;
-        at = put_codeword(out, at, stoppers, row[i]);
+    let mut at = out.len();
+    for &n in row.iter().rev() {
+        at = put_codeword(&mut out[..at], stoppers, n);
     }
 }
 
 // Writes a row.
-pub fn write(stoppers: usize, row: &[u32], out: &mut [u8]) -> CountAnswer
+pub fn write(stoppers: usize, row: &[u32], out: &mut [u8]) -> Result<usize, Refusal>
     ensures { WritePromise stoppers row.now out.old result out.new }
 {
-    if !dense::is_stoppers(stoppers) {
-        return CountAnswer::Refused(Refusal::BadStoppers);
-    }
-    let planned = plan(stoppers as u64, row, out.len());
-    if let CountAnswer::Count(bytes) = planned {
-        put_row(out, bytes, stoppers as u32, row);
-    }
-    planned
+    let stoppers = Stoppers::new(stoppers)?;
+    let bytes = plan(stoppers, row, out.len())?;
+    put_row(&mut out[..bytes], stoppers, row);
+    Ok(bytes)
 }

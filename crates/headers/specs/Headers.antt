@@ -2,13 +2,8 @@
 use Rattle.std.specs.Prelude.{Bool, ◌||◌, List, ℕ, ◌*◌, min, ltb, length}
 use Rattle.lists.specs.Lists.{sum}
 use Rattle.fibonacci.specs.Encoding.{row_bits}
-use Rattle.calls.specs.Calls.{Outcome, accepted, refused}
 use Rattle.calls.specs.Limits.{max_count}
 use Rattle.headers.specs.declared.Header.{Header}
-use Rattle.headers.specs.declared.EncodingAnswer.{EncodingAnswer}
-use Rattle.headers.specs.declared.EncodingAnswer.TheVariants as encoding
-use Rattle.headers.specs.declared.HeaderAnswer.{HeaderAnswer}
-use Rattle.headers.specs.declared.HeaderAnswer.TheVariants as found
 
 -- A header: bits in use, count, total
 abbrev pub header : ℕ → ℕ → ℕ → Header
@@ -37,12 +32,3 @@ max_total = 17592186040320
 -- 18: the bits exceed the buffer or 192,512, the count exceeds 4,096 or the total 17,592,186,040,320
 unfoldable pub is_bad_header : ℕ → Header → Bool
 is_bad_header room h = ltb (capacity room) h.bits || (ltb max_count h.count || ltb max_total h.total)
-
--- The answers of the functions
-abbrev pub encoding_outcome : EncodingAnswer → Outcome (ℕ × Header)
-encoding_outcome (encoding.Encoded bytes h) = accepted (bytes, h)
-encoding_outcome (encoding.Refused r) = refused r
-
-abbrev pub header_outcome : HeaderAnswer → Outcome Header
-header_outcome (found.Found h) = accepted h
-header_outcome (found.Refused r) = refused r

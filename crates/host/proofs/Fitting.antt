@@ -14,7 +14,7 @@ use Rattle.fibonacci.specs.Encoding.{parse, numbers}
 use Rattle.calls.specs.declared.Refusal.{Refusal}
 use Rattle.calls.specs.declared.Refusal.TheVariants.{BadOrder, TooManyBytes, TooManyCodewords, NoRoom, BadRest, TooLarge, BadSpan}
 use Rattle.calls.specs.Refusals.{reason}
-use Rattle.calls.specs.Calls.{Outcome, accepted, refused, check, and_then}
+use Rattle.calls.specs.Calls.{Outcome, check, and_then}
 use Rattle.calls.specs.Limits.{is_order, max_number, max_count, max_bytes}
 use Rattle.calls.specs.Reading.{check_finished, contents, decode}
 use Rattle.reading.specs.Reading.{is_bad_rest, fibonacci}
@@ -24,27 +24,28 @@ use Rattle.totals.proofs.Totals.{span_most}
 use Rattle.table_decoder.specs.Reading.{read_bytes}
 use Rattle.table_decoder.proofs.Answering.{table-decode}
 use Rattle.host.specs.Host.{host_number}
+use Rattle.std.specs.Prelude.{Ok, Err}
 
 -- 7 comes with its place, and every other number alone
-pub host-place : (r : Refusal) {number place : ℕ} → number ≡ (reason r).0 → place ≡ (reason r).1 → number ≡ 7 → 7 + 32 * place ≡ host_number (refused r)
+pub host-place : (r : Refusal) {number place : ℕ} → number ≡ (reason r).0 → place ≡ (reason r).1 → number ≡ 7 → 7 + 32 * place ≡ host_number (Err r)
 host-place r n p e = rw (p, eq-eqb (reason r).0 7 (sym n ∙ e), host_number)
 
-pub host-alone : (r : Refusal) {number : ℕ} → number ≡ (reason r).0 → (number ≡ 7 → ⊥) → number ≡ host_number (refused r)
+pub host-alone : (r : Refusal) {number : ℕ} → number ≡ (reason r).0 → (number ≡ 7 → ⊥) → number ≡ host_number (Err r)
 host-alone r n e = n ∙ rw (ne_eqb (reason r).0 7 (λ h. e (n ∙ h)), host_number)
 
 -- A place is at most 4,096, and what is accepted is what it should be
 abbrev pub Fits : {A : Type 0} → (A → Type 0) → Outcome A → Type 0
-Fits P (accepted x) = P x
-Fits P (refused r) = (reason r).1 ≤ max_count
+Fits P (Ok x) = P x
+Fits P (Err r) = (reason r).1 ≤ max_count
 
 check-fits : {A : Type 0} (P : A → Type 0) (r : Refusal) (t : Bool) (next : Outcome A) → (reason r).1 ≤ max_count → Fits P next → Fits P (check r t next)
 check-fits P r true next h f = h
 check-fits P r false next h f = f
 
 -- what goes on after a part that fits
-then-fits : {A B : Type 0} (P : B → Type 0) (d : Outcome A) (next : A → Outcome B) → Fits (λ x. Unit {0}) d → ((x : A) → d ≡ accepted x → Fits P (next x)) → Fits P (and_then d next)
-then-fits P (accepted x) next f g = g x refl
-then-fits P (refused r) next f g = f
+then-fits : {A B : Type 0} (P : B → Type 0) (d : Outcome A) (next : A → Outcome B) → Fits (λ x. Unit {0}) d → ((x : A) → d ≡ Ok x → Fits P (next x)) → Fits P (and_then d next)
+then-fits P (Ok x) next f g = g x refl
+then-fits P (Err r) next f g = f
 
 finished-fits : {A : Type 0} (P : A → Type 0) (limit i : ℕ) (ns : List ℕ) (next : Outcome A) → Fits P next → i ≤ max_count → Fits P (check_finished limit i ns next)
 unfolding check_finished

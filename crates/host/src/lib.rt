@@ -1,24 +1,25 @@
 // The two functions that the loom's host, written in C, calls on its own buffers. `include/leadginger.h` declares them.
 #![tactic(auto)]
 
-ghost use Rattle.std.specs.Prelude.{◌≡◌, ◌≤◌, length};
+ghost use Rattle.std.specs.Prelude.{◌≡◌, ◌≤◌, length, Err};
 ghost use Rattle.calls.specs.Refusals.{reason};
-ghost use Rattle.calls.specs.Calls.{refused};
 ghost use Rattle.calls.specs.Limits.{max_count};
 ghost use Rattle.totals.specs.Totals.{total};
 ghost use Rattle.table_decoder.specs.Reading.{read_bytes, read_bytes_into};
 ghost use Rattle.host.specs.Host.{host_number};
 
+use calls::Refusal;
+
 // The host's number for a refusal. Requires: a place of at most 4,096; no refusal of the two functions has a larger one.
-fn number_of(r: calls::Refusal) -> u64
+fn number_of(r: Refusal) -> u64
     requires { (reason r).1 ≤ max_count }
-    ensures { result ≡ host_number (refused r) }
+    ensures { result ≡ host_number (Err r) }
 {
-    let told = calls::reason(r);
-    if told.number == 7 {
-        7 + 32 * told.place as u64
+    let (number, place) = r.reason();
+    if number == 7 {
+        7 + 32 * place as u64
     } else {
-        told.number
+        number
     }
 }
 
@@ -28,10 +29,9 @@ pub extern "C" fn leadginger_read(s: &[u8], out: &mut [u8]) -> u64
     ensures value { result ≡ host_number (read_bytes s.now (length out.old)) }
     ensures out_after { out.new ≡ read_bytes_into s.now out.old }
 {
-    let answer = table_decoder::read_bytes(s, out);
-    match answer {
-        calls::CountAnswer::Count(count) => 32 * count as u64,
-        calls::CountAnswer::Refused(r) => number_of(r),
+    match table_decoder::read_bytes(s, out) {
+        Ok(count) => 32 * count as u64,
+        Err(r) => number_of(r),
     }
 }
 
@@ -40,9 +40,8 @@ pub extern "C" fn leadginger_read(s: &[u8], out: &mut [u8]) -> u64
 pub extern "C" fn leadginger_total(order: usize, s: &[u8], a: usize, b: usize) -> u64
     ensures { result ≡ host_number (total order s.now a b) }
 {
-    let answer = totals::total(order, s, a, b);
-    match answer {
-        totals::TotalAnswer::Sum(total) => 32 * total,
-        totals::TotalAnswer::Refused(r) => number_of(r),
+    match totals::total(order, s, a, b) {
+        Ok(total) => 32 * total,
+        Err(r) => number_of(r),
     }
 }

@@ -1,14 +1,12 @@
 -- What was read.
-use Rattle.std.specs.Prelude.{◌≡◌, ℕ, List, length, take, ⊤}
-use Rattle.listing.specs.declared.Input.{Input}
-use Rattle.listing.specs.declared.Input.TheVariants.{Bytes, Unreadable}
+use Rattle.std.specs.Prelude.{◌≡◌, ℕ, List, Result, Ok, Err, length, take, ⊤}
 
 -- How many bytes of the buffer are the input's
-abbrev pub bytes_read : Input → ℕ
-bytes_read (Bytes n) = n
-bytes_read Unreadable = 0
+abbrev pub bytes_read : {E : Type 0} → Result ℕ E → ℕ
+bytes_read (Ok n) = n
+bytes_read (Err e) = 0
 
 -- What was read of the bytes that a reader had left: all, or as many as the buffer has room for
-abbrev pub IsRead : Input → List ℕ → List ℕ → Type 0
-IsRead (Bytes n) xs buf = take n buf ≡ take (length buf) xs
-IsRead Unreadable xs buf = ⊤
+abbrev pub IsRead : {E : Type 0} → Result ℕ E → List ℕ → List ℕ → Type 0
+IsRead (Ok n) xs buf = take n buf ≡ take (length buf) xs
+IsRead (Err e) xs buf = ⊤

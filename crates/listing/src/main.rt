@@ -6,34 +6,29 @@ ghost use Rattle.std.specs.Prelude.{◌≡◌, ◌≤◌, length, take, IfSome};
 ghost use Rattle.listing_text.specs.Listing.{text, max_text_bytes};
 ghost use Rattle.listing.specs.Leaves.{bytes_read, IsRead};
 
+use std::io;
 use std::io::Read;
 
 // One byte more than an input may have: who has read so many knows that there are too many.
 const READ_BYTES: usize = 45068;
 
-#[derive(Clone, Copy)]
-enum Input {
-    // So many bytes, up to the end of the input or of the buffer.
-    Bytes(usize),
-    // The input cannot be read. It must not pass as one that has ended.
-    Unreadable,
-}
-
-// Reads until the input ends or the buffer is full, whatever the sizes of the reads. Of a reader whose bytes a contract can name none is missed; which bytes
-// standard input has no contract can say, so there it is tested.
-fn read<R: Read>(input: &mut R, buf: &mut [u8]) -> Input
+// Reads until the input ends or the buffer is full, whatever the sizes of the reads: how many bytes of the buffer are the input's. An input that cannot be read
+// does not pass as one that has ended. Of a reader whose bytes a contract can name none is missed; which bytes standard input has no contract can say, so there
+// it is tested.
+#[tactic(auto, using(crate::proofs::Reading::read_more))]
+fn read<R: Read>(input: &mut R, buf: &mut [u8]) -> io::Result<usize>
     ensures count { bytes_read result ≤ length buf.new }
     ensures bytes { IfSome (R.remaining input.old) (λ xs. IsRead result xs buf.new) }
 {
     let mut n: usize = 0;
     while n < buf.len() {
-        match input.read(&mut buf[n..]) {
-            Ok(0) => return Input::Bytes(n),
-            Ok(more) => n += more,
-            Err(_) => return Input::Unreadable,
+        let more = input.read(&mut buf[n..])?;
+        if more == 0 {
+            break;
         }
+        n += more;
     }
-    Input::Bytes(n)
+    Ok(n)
 }
 
 // The text for an input. Requires: a buffer that has room for every text, as the program's has.
@@ -43,10 +38,7 @@ fn print(input: &[u8], out: &mut [u8; listing_text::MAX_TEXT_BYTES]) -> usize
     ensures size { result ≤ max_text_bytes }
     ensures room { length out.new ≡ max_text_bytes }
 {
-    match listing_text::listing(input, out) {
-        calls::CountAnswer::Count(n) => n,
-        calls::CountAnswer::Refused(_) => 0,
-    }
+    listing_text::listing(input, out).unwrap()
 }
 
 // Where standard error takes nothing either, there is nobody to tell.
@@ -56,14 +48,12 @@ fn complain(rt: &impl Eprint, message: &str) {
 
 fn main(rt: HostRuntime) {
     let mut buf = [0u8; READ_BYTES];
-    match read(&mut rt.stdin(), &mut buf) {
-        Input::Unreadable => complain(&rt, "listing: the input cannot be read"),
-        Input::Bytes(n) => {
-            let mut out = [0u8; listing_text::MAX_TEXT_BYTES];
-            let size = print(&buf[..n], &mut out);
-            if rt.write_all(&out[..size]).is_err() {
-                complain(&rt, "listing: the output cannot be written");
-            }
-        }
+    let Ok(n) = read(&mut rt.stdin(), &mut buf) else {
+        return complain(&rt, "listing: the input cannot be read");
+    };
+    let mut out = [0u8; listing_text::MAX_TEXT_BYTES];
+    let size = print(&buf[..n], &mut out);
+    if rt.write_all(&out[..size]).is_err() {
+        complain(&rt, "listing: the output cannot be written");
     }
 }

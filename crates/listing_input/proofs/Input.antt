@@ -1,49 +1,27 @@
 -- The input: what its form says, and how it is read line by line.
 use mathlib.Core.Path.{◌≡◌, refl, sym, ap, ap₂, ◌∙◌}
-use mathlib.Core.Bool.{Bool, true, false, ◌&&◌, and-false, and_assoc, false≢true}
+use mathlib.Core.Bool.{Bool, true, false, ◌&&◌, and-false, and_assoc}
 use mathlib.Core.List.{List, [], ◌∷◌, ◌++◌, append_assoc, append-nil, map, flatten}
-use Prim.Native.Nat.{ℕ, zero, suc, ◌+◌, ◌-◌, ◌*◌, ◌/◌, ◌^◌, ◌≤◌, ◌<◌}
+use Prim.Native.Nat.{ℕ, zero, suc, ◌+◌, ◌*◌, ◌/◌, ◌%◌, ◌^◌, ◌≤◌, ◌<◌}
 use native.Mathlib.Omega.{arith}
 use native.Mathlib.Numerals.{add-one}
 use lib.Dec.{eqb, ltb}
-use lib.ListN.{length, take, drop, set, replicate, length-append, take-append-drop, length-take, length-drop, drop_of_length-le}
-use lib.Seq.{take_at, drop_at, drop-drop, take-suc-set, sets, sets-eq, set_at}
-use borrow.Author.Tests.{eq-eqb, eqb-true, lt-ltb, ltb-true}
+use lib.ListN.{length, take, drop, set, replicate, length-append, length-map, drop_of_length-le}
+use lib.Seq.{take_at, drop_at, take-suc-set, take-append-le, sets, sets-eq}
+use borrow.Author.Tests.{lt-ltb, ltb-true}
+use Rattle.std.specs.Prelude.{Ok, Err}
+use Rattle.std.specs.Str.{bytes_eq}
+use Rattle.std.proofs.lemmas.Bool.{false_from_ne_true}
+use Rattle.std.proofs.lemmas.Slice.Eq.{bytes_eq-Decides}
 use Rattle.lists.specs.Lists.{All}
 use Rattle.columns.specs.Columns.{column, decimal}
 use Rattle.columns.proofs.Columns.{column-length, column-number, column-below}
+use Rattle.calls.specs.declared.Refusal.TheVariants.{BadLine}
+use Rattle.calls.specs.Leaves.{Scanned}
 use Rattle.calls.proofs.Checks.{both}
 use Rattle.fibonacci.specs.Leaves.{number_or_zero}
-use Rattle.listing_input.specs.Input.{input_line, input_of, fields_of, fields, same, is_input}
-
--- ## Equal lists
-
-pub same_refl : (x : List ℕ) → same x x ≡ true
-unfolding same
-same_refl [] = refl
-same_refl (a ∷ x) = rw (eq-eqb a a refl) (same_refl x)
-
-pub same_true : (x y : List ℕ) → same x y ≡ true → x ≡ y
-unfolding same
-same_true [] [] e = refl
-same_true [] (b ∷ y) e = absurd (false≢true e)
-same_true (a ∷ x) [] e = absurd (false≢true e)
-same_true (a ∷ x) (b ∷ y) e = let p = both (eqb a b) (same x y) e in ap₂ ◌∷◌ (eqb-true a b p.0) (same_true x y p.1)
-
-pub same-append : (x y x' y' : List ℕ) → length x ≡ length x' → same (x ++ y) (x' ++ y') ≡ (same x x' && same y y')
-unfolding same
-same-append [] y [] y' e = refl
-same-append [] y (b ∷ x') y' e = absurd (omega arith)
-same-append (a ∷ x) y [] y' e = absurd (omega arith)
-same-append (a ∷ x) y (b ∷ x') y' e =
-    ap (λ (t : Bool). eqb a b && t) (same-append x y x' y' (omega arith)) ∙ sym (and_assoc (eqb a b) (same x x') (same y y'))
-
-pub same_false : (x y : List ℕ) → (x ≡ y → ⊥) → same x y ≡ false
-same_false x y h = by (same x y) refl
-  where
-    by : (t : Bool) → same x y ≡ t → same x y ≡ false
-    by true e = absurd (h (same_true x y e))
-    by false e = e
+use Rattle.listing_input.specs.Input.{input_line, input_of, fields_of, fields, is_input}
+use Rattle.listing_input.specs.Leaves.{parsed}
 
 -- ## Lines
 
@@ -109,8 +87,8 @@ form-read ns a = let count : length (input_of ns) / 11 ≡ length ns = omega (ar
 pub lines_are : (s : List ℕ) → is_input s ≡ true → (s ≡ input_of (fields s)) × (1 ≤ length (fields s)) × All (λ n. n < 10 ^ 10) (fields s)
 unfolding is_input
 lines_are s e =
-    let p = both (ltb 0 (length s)) (same s (input_of (fields s))) e in
-    let lines : s ≡ input_of (fields s) = same_true s (input_of (fields s)) p.1 in
+    let p = both (ltb 0 (length s)) (bytes_eq s (input_of (fields s))) e in
+    let lines : s ≡ input_of (fields s) = (bytes_eq-Decides s (input_of (fields s))).0 p.1 in
     let some : 0 < length s = ltb-true 0 (length s) p.0 in
     (lines, omega (arith, ap length lines, lines-length (fields s)), form-below s lines)
 
@@ -119,91 +97,89 @@ unfolding is_input
 are_lines ns h a =
     let read = form-read ns a in
     let some : 0 < length (input_of ns) = omega (arith, lines-length ns) in
-    (rw (read, lt-ltb 0 (length (input_of ns)) some) (same_refl (input_of ns)), read)
-
--- ## Reading line by line
-
--- no line, or a rest that is no whole line
-pub input_none : (s : List ℕ) → length s ≡ 0 → is_input s ≡ false
-unfolding is_input
-input_none s e = rw e
-
-pub input-rest : (s : List ℕ) → (length s / 11 * 11 ≡ length s → ⊥) → is_input s ≡ false
-unfolding is_input
-input-rest s h =
-    let other : same s (input_of (fields s)) ≡ false =
-    same_false s (input_of (fields s)) (λ (e : s ≡ input_of (fields s)). h (omega (arith, ap length e, lines-length (fields s), fields-length s))) in
-    rw other (and-false (ltb 0 (length s)))
-
--- what comes after i lines, and the numbers there
-abbrev pub after : List ℕ → ℕ → List ℕ
-after s i = drop (i * 11) s
-
-abbrev pub others : List ℕ → ℕ → List ℕ
-others s i = fields_of (length s / 11 - i) (after s i)
-
--- after i lines, each of the form: the others decide, and with their numbers the list has all
-pub record Parsed (s : List ℕ) (i : ℕ) (numbers : List ℕ) : Type 0 where
-  pub form : is_input s ≡ same (after s i) (input_of (others s i))
-  pub kept : take i numbers ++ map number_or_zero (others s i) ≡ map number_or_zero (fields s)
-
-pub parsed-none : (s numbers : List ℕ) → (length s ≡ 0 → ⊥) → Parsed s 0 numbers
-unfolding is_input fields
-parsed-none s numbers h =
-    let all : length s / 11 - 0 ≡ length s / 11 = omega arith in
-    let some : ltb 0 (length s) ≡ true = lt-ltb 0 (length s) (omega arith) in
-    record { form = rw (all, some) refl; kept = rw all refl }
-
--- the next line, which has the number n if it is one
-module _ (s : List ℕ) (i : ℕ) (h : i < length s / 11) (n : ℕ) (e : n ≡ decimal (take 10 (after s i))) where
-  next : drop 11 (after s i) ≡ after s (i + 1)
-  next = let k : i * 11 + 11 ≡ (i + 1) * 11 = omega arith in drop-drop 11 (i * 11) s ∙ ap (λ (k : ℕ). drop k s) k
-
-  left : others s i ≡ n ∷ others s (i + 1)
-  unfolding fields_of
-  left =
-      let k : length s / 11 - i ≡ suc (length s / 11 - (i + 1)) = omega arith in
-      ap (λ (j : ℕ). fields_of j (after s i)) k ∙ ap₂ (λ (a : ℕ) (t : List ℕ). a ∷ fields_of (length s / 11 - (i + 1)) t) (sym e) next
-
-  split : same (after s i) (input_of (others s i)) ≡ (same (take 11 (after s i)) (input_line n) && same (after s (i + 1)) (input_of (others s (i + 1))))
-  split =
-      let t : List ℕ = after s i in
-      let long : length (take 11 t) ≡ length (input_line n) = omega (arith, length-take 11 t, length-drop (i * 11) s, line-length n) in
-      ap₂ same (sym (take-append-drop 11 t) ∙ ap (λ (l : List ℕ). take 11 t ++ l) next) (ap input_of left ∙ lines_cons n (others s (i + 1)))
-      ∙ same-append (take 11 t) (after s (i + 1)) (input_line n) (input_of (others s (i + 1))) long
-
-  pub parsed-other : (numbers : List ℕ) → Parsed s i numbers → same (take 11 (after s i)) (input_line n) ≡ false → is_input s ≡ false
-  parsed-other numbers p q = p.form ∙ split ∙ rw q refl
-
-  pub parsed-more : (numbers : List ℕ) → Parsed s i numbers → same (take 11 (after s i)) (input_line n) ≡ true → i < length numbers
-      → Parsed s (i + 1) (set numbers i (number_or_zero n))
-  parsed-more numbers p q room =
-      let one : take (i + 1) (set numbers i (number_or_zero n)) ≡ take i numbers ++ (number_or_zero n ∷ []) = rw add-one (take-suc-set numbers i (number_or_zero n) room) in
-      record {
-        form = p.form ∙ split ∙ rw q refl;
-        kept = rw (one, append_assoc (take i numbers) (number_or_zero n ∷ []) (map number_or_zero (others s (i + 1)))) (rw left at p.kept);
-      }
-
-pub parsed-end : (s : List ℕ) (i : ℕ) (numbers : List ℕ) → Parsed s i numbers → length s / 11 * 11 ≡ length s → i ≡ length s / 11
-    → (is_input s ≡ true) × (take (length s / 11) numbers ≡ map number_or_zero (fields s))
-unfolding fields_of input_of flatten same
-parsed-end s i numbers p whole e =
-    let none : length s / 11 - i ≡ 0 = omega arith in
-    let end : after s i ≡ [] = drop_of_length-le s {i = i * 11} (omega arith) in
-    let no : others s i ≡ [] = rw none refl in (
-      p.form ∙ rw (no, end) refl,
-      rw (← e) (sym (append-nil (take i numbers)) ∙ rw no at p.kept),
-    )
+    (rw (read, lt-ltb 0 (length (input_of ns)) some) ((bytes_eq-Decides (input_of ns) (input_of ns)).1 refl), read)
 
 -- ## A line printed anew and compared
 
-pub line_made : (n : ℕ) → set (sets (replicate 11 0) 0 (column 10 n)) 10 10 ≡ input_line n
+pub line_made : (n : ℕ) → sets (replicate 11 10) 0 (column 10 n) ≡ input_line n
 line_made n =
     let long = column-length 10 n in
-    let all : sets (replicate 11 0) 0 (column 10 n) ≡ column 10 n ++ (0 ∷ []) =
-    sets-eq (column 10 n) (replicate 11 0) 0 (omega arith) ∙ rw long refl in
-    ap (λ (l : List ℕ). set l 10 10) all ∙ set_at (column 10 n) 0 [] 10 10 long
+    let feeds : List ℕ = replicate 11 10 in
+    sets-eq (column 10 n) feeds 0 (omega (arith, long)) ∙ rw long refl
 
-pub same-decided : (t : Bool) (x y z : List ℕ) → (t ≡ true → x ≡ y) × (x ≡ y → t ≡ true) → y ≡ z → t ≡ same x z
-same-decided true x y z d e = sym (rw (← e, ← d.0 refl) (same_refl x))
-same-decided false x y z d e = sym (same_false x z (λ (q : x ≡ z). false≢true (d.1 (q ∙ sym e))))
+bytes-append : (x y x' y' : List ℕ) → length x ≡ length x' → bytes_eq (x ++ y) (x' ++ y') ≡ (bytes_eq x x' && bytes_eq y y')
+bytes-append [] y [] y' e = refl
+bytes-append [] y (b ∷ x') y' e = absurd (omega arith)
+bytes-append (a ∷ x) y [] y' e = absurd (omega arith)
+bytes-append (a ∷ x) y (b ∷ x') y' e =
+    ap (λ (t : Bool). eqb a b && t) (bytes-append x y x' y' (omega arith)) ∙ sym (and_assoc (eqb a b) (bytes_eq x x') (bytes_eq y y'))
+
+-- ## Reading line by line
+
+-- an input of another form is refused, and the list then may hold anything
+refused : (s numbers : List ℕ) → is_input s ≡ false → Scanned (parsed s) (Err BadLine) numbers
+unfolding parsed
+refused s numbers e = rw e (refl, tt)
+
+-- no line, or a rest that is no whole line
+pub input_none : (s numbers : List ℕ) → length s ≡ 0 → Scanned (parsed s) (Err BadLine) numbers
+unfolding is_input
+input_none s numbers e = refused s numbers (rw e)
+
+pub input_rest : (s numbers : List ℕ) → (length s % 11 ≡ 0 → ⊥) → Scanned (parsed s) (Err BadLine) numbers
+unfolding is_input
+input_rest s numbers h =
+    let other : s ≡ input_of (fields s) → ⊥ = λ e. h (omega (arith, ap length e, lines-length (fields s), fields-length s)) in
+    let no : bytes_eq s (input_of (fields s)) ≡ false = false_from_ne_true (bytes_eq s (input_of (fields s))) (λ e. other ((bytes_eq-Decides s (input_of (fields s))).0 e)) in
+    refused s numbers (rw no (and-false (ltb 0 (length s))))
+
+-- the next line, which has the number n if it is one, and what comes after it
+module _ (line left : List ℕ) (long : length line ≡ 11) (n : ℕ) (e : n ≡ decimal (take 10 line)) where
+  fields_more : fields (line ++ left) ≡ n ∷ fields left
+  unfolding fields fields_of
+  fields_more =
+      let count : length (line ++ left) / 11 ≡ suc (length left / 11) = omega (arith, length-append line left) in
+      let ten : take 10 (line ++ left) ≡ take 10 line = take-append-le 10 line left (omega arith) in
+      rw (count, ten, drop_at line left 11 long, e)
+
+  form_more : bytes_eq (line ++ left) (input_of (fields (line ++ left))) ≡ (bytes_eq line (input_line n) && bytes_eq left (input_of (fields left)))
+  form_more = rw (fields_more, lines_cons n (fields left)) (bytes-append line left (input_line n) (input_of (fields left)) (long ∙ sym (line-length n)))
+
+-- after i lines, each of the form, with so much left of the text: that decides, and with its numbers the list has all
+pub record Parsed (s : List ℕ) (i : ℕ) (left numbers : List ℕ) : Type 0 where
+  pub long : length s ≡ i * 11 + length left
+  pub form : is_input s ≡ bytes_eq left (input_of (fields left))
+  pub kept : take i numbers ++ map number_or_zero (fields left) ≡ map number_or_zero (fields s)
+
+pub parsed_none : (s numbers : List ℕ) → (length s ≡ 0 → ⊥) → Parsed s 0 s numbers
+unfolding is_input
+parsed_none s numbers h =
+    let some : ltb 0 (length s) ≡ true = lt-ltb 0 (length s) (omega arith) in record { long = omega arith; form = rw some refl; kept = refl }
+
+module _ (s : List ℕ) (i : ℕ) (left numbers : List ℕ) (p : Parsed s i left numbers) where
+  module _ (line more : List ℕ) (n : ℕ) (e : left ≡ line ++ more) (long : length line ≡ 11) (q : n ≡ decimal (take 10 line)) where
+    pub parsed_other : bytes_eq line (input_line n) ≡ false → Scanned (parsed s) (Err BadLine) numbers
+    parsed_other t = refused s numbers (p.form ∙ rw e (form_more line more long n q ∙ rw t refl))
+
+    pub parsed_more : (x : ℕ) → bytes_eq line (input_line n) ≡ true → length s ≤ 11 * length numbers → x ≡ number_or_zero n
+        → Parsed s (i + 1) more (set numbers i x)
+    parsed_more x t room z =
+        let both : length left ≡ length line + length more = ap length e ∙ length-append line more in
+        let inside : i < length numbers = omega (arith, p.long) in
+        let one : take (i + 1) (set numbers i x) ≡ take i numbers ++ (x ∷ []) = rw add-one (take-suc-set numbers i x inside) in
+        record {
+          long = omega (arith, p.long);
+          form = p.form ∙ rw e (form_more line more long n q ∙ rw t refl);
+          kept = rw (one, append_assoc (take i numbers) (x ∷ []) (map number_or_zero (fields more)), z) (rw (e, fields_more line more long n q) at p.kept);
+        }
+
+  -- no whole line is left, and nothing else is
+  pub parsed_end : length left < 11 → length s % 11 ≡ 0 → Scanned (parsed s) (Ok (length s / 11)) numbers
+  unfolding parsed fields fields_of input_of flatten
+  parsed_end h whole =
+      let none : left ≡ [] = drop_of_length-le left {i = 0} (omega (arith, p.long)) in
+      let good : is_input s ≡ true = p.form ∙ rw none refl in
+      let all : take i numbers ++ [] ≡ map number_or_zero (fields s) = rw none at p.kept in
+      let count : length (map number_or_zero (fields s)) ≡ length s / 11 = length-map (fields s) number_or_zero ∙ fields-length s in
+      let read : length s / 11 ≡ i = omega (arith, p.long, ap length none) in
+      rw good (ap Ok (sym count), ap (λ (k : ℕ). take k numbers) (count ∙ read) ∙ sym (append-nil (take i numbers)) ∙ all)

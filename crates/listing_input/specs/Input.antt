@@ -1,5 +1,6 @@
 -- The listing program's input (paper 01, "The listing").
-use Rattle.std.specs.Prelude.{Bool, true, false, ◌&&◌, ℕ, zero, suc, ◌/◌, eqb, ltb, length, take, drop}
+use Rattle.std.specs.Prelude.{Bool, ◌&&◌, ℕ, zero, suc, ◌/◌, ltb, length, take, drop}
+use Rattle.std.specs.Str.{bytes_eq}
 use mathlib.Core.List.{List, [], ◌∷◌, ◌++◌, map, flatten}
 use Rattle.columns.specs.Columns.{ascii, column, decimal}
 
@@ -24,13 +25,6 @@ fields_of (suc k) s = decimal (take 10 s) ∷ fields_of k (drop 11 s)
 unfoldable pub fields : List ℕ → List ℕ
 fields s = fields_of (length s / 11) s
 
--- Two lists of numbers are equal
-unfoldable pub same : List ℕ → List ℕ → Bool
-same [] [] = true
-same [] (y ∷ ys) = false
-same (x ∷ xs) [] = false
-same (x ∷ xs) (y ∷ ys) = eqb x y && same xs ys
-
 -- There is a line, and each is of the form: the text is that which has a line for each of its numbers
 unfoldable pub is_input : List ℕ → Bool
-is_input s = ltb 0 (length s) && same s (input_of (fields s))
+is_input s = ltb 0 (length s) && bytes_eq s (input_of (fields s))

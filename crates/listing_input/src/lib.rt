@@ -2,9 +2,13 @@
 #![tactic(auto)]
 
 ghost use Rattle.std.specs.Prelude.{◌≡◌, ◌≤◌, length};
+ghost use Rattle.std.specs.Str.{bytes_eq};
+ghost use Rattle.calls.specs.Leaves.{Scanned};
 ghost use Rattle.fibonacci.specs.Leaves.{number_or_zero};
-ghost use Rattle.listing_input.specs.Input.{input_line, max_input_bytes, same};
-ghost use Rattle.listing_input.specs.Leaves.{Parses};
+ghost use Rattle.listing_input.specs.Input.{input_line, max_input_bytes};
+ghost use Rattle.listing_input.specs.Leaves.{parsed};
+
+use calls::Refusal;
 
 // How many bytes an input has at most, and a line of it; how many lines that makes.
 pub const MAX_INPUT_BYTES: usize = 45067;
@@ -15,43 +19,38 @@ pub const LINES: usize = 4097;
 
 // A line is that of the number n: the line is printed anew and compared.
 fn is_line(line: &[u8], n: u64) -> bool
-    ensures { result ≡ same line.now (input_line n) }
+    ensures { result ≡ bytes_eq line.now (input_line n) }
 {
-    let mut good = [0u8; LINE];
+    let mut good = [b'\n'; LINE];
     columns::put(&mut good, 0, 10, n);
-    good[10] = b'\n';
-    check::same(line, &good)
+    line == good.as_slice()
 }
 
 // A number as one of 32 bits; one above 4,294,967,295 as 0, which is no order and no number of a row either.
+#[tactic(auto, unfolding(fibonacci::specs::Leaves::number_or_zero))]
 fn clip(n: u64) -> u32
     ensures { result ≡ number_or_zero n }
 {
-    if n <= calls::MAX_NUMBER { n as u32 } else { 0 }
+    u32::try_from(n).unwrap_or(0)
 }
 
-// Whether each line of the input is of the form, and there is one; the numbers then begin the list. Where a line is not, the list may hold anything: the listing
-// then prints a refusal and looks at none of it. Requires: an input that is not too long, which the listing checks.
-pub fn parse(input: &[u8], numbers: &mut [u32; LINES]) -> bool
-    requires { (length input.now ≤ max_input_bytes) × (length numbers.old ≡ 4097) }
-    ensures { Parses input.now result numbers.new }
+// The numbers of an input, as far as they have 32 bits, at the front of a list: how many. Refused is an input with a line of another form, or with none; then the
+// list may hold anything, and the listing looks at none of it. Requires: an input that is not too long, which the listing checks.
+#[tactic(auto, using(crate::proofs::Input::parsed_none))]
+pub fn parse(input: &[u8], numbers: &mut [u32; LINES]) -> Result<usize, Refusal>
+    requires { length input.now ≤ max_input_bytes }
+    ensures found { Scanned (parsed input.now) result numbers.new }
+    ensures list { length numbers.new ≡ LINES }
 {
-    if input.len() == 0 {
-        return false;
+    if input.is_empty() || input.len() % LINE != 0 {
+        return Err(Refusal::BadLine);
     }
-    let count = input.len() / LINE;
-    if count * LINE != input.len() {
-        return false;
-    }
-    for i in 0..count {
-        let at = i * LINE;
-        let end = at + 10;
-        let next = at + LINE;
-        let n = columns::decimal(&input[at..end]);
-        if !is_line(&input[at..next], n) {
-            return false;
+    for (i, line) in input.chunks_exact(LINE).enumerate() {
+        let n = columns::decimal(&line[..10]);
+        if !is_line(line, n) {
+            return Err(Refusal::BadLine);
         }
         numbers[i] = clip(n);
     }
-    true
+    Ok(input.len() / LINE)
 }

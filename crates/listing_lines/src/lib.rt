@@ -3,10 +3,13 @@
 
 ghost use Rattle.std.specs.Prelude.{◌≡◌, ◌+◌, ◌*◌, ◌≤◌, length};
 ghost use Rattle.std.proofs.lemmas.List.Edits.{sets};
-ghost use Rattle.calls.specs.Limits.{Order, Legal, max_number, max_count};
+ghost use Rattle.calls.specs.Limits.{Legal, max_number, max_count};
 ghost use Rattle.listing_lines.specs.Lines.{row_line, row_lines, lines};
 
+use fibonacci::Order;
+
 // A number's line, from byte `at` on. Requires: there is room, as for all of the lines.
+#[tactic(auto, using(crate::proofs::Lines::line_put))]
 fn put_line(out: &mut [u8], at: usize, place: u64, n: u64, bits: u64, total: u64)
     requires { at + 38 ≤ length out.old }
     ensures { out.new ≡ sets out.old at (row_line place n bits total) }
@@ -19,24 +22,25 @@ fn put_line(out: &mut [u8], at: usize, place: u64, n: u64, bits: u64, total: u64
 }
 
 // The lines of a row, after the header. Requires: what `put_lines` requires.
-fn put_rows(out: &mut [u8], order: usize, row: &[u32])
-    requires { Order order × (length row.now ≤ max_count) × Legal max_number row.now × (38 + 38 * length row.now ≤ length out.old) }
-    ensures { out.new ≡ sets out.old 38 (row_lines order 0 0 row.now) }
+#[tactic(auto, using(crate::proofs::Lines::legal_positive, crate::proofs::Lines::legal_small))]
+fn put_rows(out: &mut [u8], order: Order, row: &[u32])
+    requires { (length row.now ≤ max_count) × Legal max_number row.now × (38 + 38 * length row.now ≤ length out.old) }
+    ensures { out.new ≡ sets out.old 38 (row_lines order.m 0 0 row.now) }
 {
-    let firsts = fibonacci::first_numbers(order);
     let mut total: u64 = 0;
-    for i in 0..row.len() {
-        let n = calls::wide(row[i]);
-        let bits = codewords::bit_length(&firsts, order, n);
+    for (i, &n) in row.iter().enumerate() {
+        let n = u64::from(n);
+        let bits = codewords::bit_length(order, n);
         total += n;
         put_line(out, 38 + 38 * i, i as u64, n, bits as u64, total);
     }
 }
 
-// The whole listing of a row. Requires: a legal order and row, and room for the listing, which the listing program's text checks.
-pub fn put_lines(out: &mut [u8], order: usize, row: &[u32], bytes: usize)
-    requires { Order order × (length row.now ≤ max_count) × Legal max_number row.now × (55 + 38 * length row.now ≤ length out.old) }
-    ensures { out.new ≡ sets out.old 0 (lines order row.now bytes) }
+// The whole listing of a row. Requires: a legal row, and room for the listing, which the listing program's text checks.
+#[tactic(auto, using(crate::proofs::Lines::lines_put))]
+pub fn put_lines(out: &mut [u8], order: Order, row: &[u32], bytes: usize)
+    requires { (length row.now ≤ max_count) × Legal max_number row.now × (55 + 38 * length row.now ≤ length out.old) }
+    ensures { out.new ≡ sets out.old 0 (lines order.m row.now bytes) }
 {
     columns::put_text(out, 0, b"PLACE     NUMBER BITS           TOTAL\n");
     put_rows(out, order, row);

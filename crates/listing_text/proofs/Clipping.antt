@@ -11,7 +11,7 @@ use borrow.Author.Tests.{lt-leb, lt-ltb}
 use Rattle.calls.proofs.Checks.{order_is, number_is, check-then, each-accepted, each-refused}
 use Rattle.calls.specs.declared.Refusal.{Refusal}
 use Rattle.calls.specs.declared.Refusal.TheVariants.{BadOrder, BadNumber, TooManyNumbers}
-use Rattle.calls.specs.Calls.{Outcome, accepted, refused, check, and_then}
+use Rattle.calls.specs.Calls.{Outcome, check, and_then}
 use Rattle.calls.specs.Limits.{within, is_order, is_outside, Legal, max_number, max_count, check_each}
 use Rattle.fibonacci.specs.Leaves.{number_or_zero}
 use Rattle.fibonacci.proofs.Lookup.{number-kept, number-zero}
@@ -19,6 +19,7 @@ use Rattle.headers.specs.declared.Header.{Header}
 use Rattle.encoder.specs.Writing.{write}
 use Rattle.listing_lines.specs.Lines.{lines}
 use Rattle.listing_text.specs.Listing.{listing_of}
+use Rattle.std.specs.Prelude.{Ok, Err}
 
 outside-same : (n : ℕ) → is_outside max_number (number_or_zero n) ≡ is_outside max_number n
 unfolding is_outside
@@ -49,26 +50,26 @@ each_same place (n ∷ row) next =
 -- ## The listing of a row
 
 -- a number is at fault: whatever it is, the listing is refused
-list-fault : (m : ℕ) (row : List ℕ) (r : Refusal) → check_each {A = ℕ} BadNumber max_number 0 row (accepted 0) ≡ refused r
-    → listing_of m row ≡ check BadOrder (not (is_order m)) (check TooManyNumbers (ltb max_count (length row)) (refused r))
+list-fault : (m : ℕ) (row : List ℕ) (r : Refusal) → check_each {A = ℕ} BadNumber max_number 0 row (Ok 0) ≡ Err r
+    → listing_of m row ≡ check BadOrder (not (is_order m)) (check TooManyNumbers (ltb max_count (length row)) (Err r))
 unfolding listing_of write
 list-fault m row r e =
-    ap (λ (o : Outcome (ℕ × Header)). and_then (check BadOrder (not (is_order m)) (check TooManyNumbers (ltb max_count (length row)) o)) (λ x. accepted (lines m row x.0)))
+    ap (λ (o : Outcome (ℕ × Header)). and_then (check BadOrder (not (is_order m)) (check TooManyNumbers (ltb max_count (length row)) o)) (λ x. Ok (lines m row x.0)))
     (each-refused BadNumber max_number 0 row 0 r _ e)
     ∙ check-then BadOrder (not (is_order m)) _ _
-    ∙ ap (check BadOrder (not (is_order m))) (check-then TooManyNumbers (ltb max_count (length row)) (refused r) _)
+    ∙ ap (check BadOrder (not (is_order m))) (check-then TooManyNumbers (ltb max_count (length row)) (Err r) _)
 
 list-row : (m : ℕ) (row : List ℕ) → listing_of m (map number_or_zero row) ≡ listing_of m row
-list-row m row = by (check_each {A = ℕ} BadNumber max_number 0 row (accepted 0)) refl
+list-row m row = by (check_each {A = ℕ} BadNumber max_number 0 row (Ok 0)) refl
   where
-    by : (o : Outcome ℕ) → check_each {A = ℕ} BadNumber max_number 0 row (accepted 0) ≡ o → listing_of m (map number_or_zero row) ≡ listing_of m row
-    by (accepted x) e = ap (listing_of m) (row_same row (each-accepted BadNumber max_number 0 row _ x e).0)
-    by (refused r) e =
-        list-fault m (map number_or_zero row) r (each_same 0 row (accepted 0) ∙ e)
-        ∙ ap (λ (n : ℕ). check BadOrder (not (is_order m)) (check TooManyNumbers (ltb max_count n) (refused r))) (length-map row number_or_zero)
+    by : (o : Outcome ℕ) → check_each {A = ℕ} BadNumber max_number 0 row (Ok 0) ≡ o → listing_of m (map number_or_zero row) ≡ listing_of m row
+    by (Ok x) e = ap (listing_of m) (row_same row (each-accepted BadNumber max_number 0 row _ x e).0)
+    by (Err r) e =
+        list-fault m (map number_or_zero row) r (each_same 0 row (Ok 0) ∙ e)
+        ∙ ap (λ (n : ℕ). check BadOrder (not (is_order m)) (check TooManyNumbers (ltb max_count n) (Err r))) (length-map row number_or_zero)
         ∙ sym (list-fault m row r e)
 
-list-order : (m : ℕ) (row : List ℕ) → is_order m ≡ false → listing_of m row ≡ refused BadOrder
+list-order : (m : ℕ) (row : List ℕ) → is_order m ≡ false → listing_of m row ≡ Err BadOrder
 unfolding listing_of write
 list-order m row o = rw o refl
 
@@ -92,10 +93,3 @@ order_row (suc count) (x ∷ numbers) (n ∷ ns) h k e =
       ap (λ (l : List ℕ). get_or l 0 0) e,
       ap (λ (j : ℕ). take j numbers) one ∙ ap (drop 1) e,
     )
-
-pub number-below : (n : ℕ) → number_or_zero n ≤ max_number
-number-below n =
-    elim (dec_le n max_number) [
-      | yes h ↦ omega (arith, number-kept n h)
-      | no h ↦ omega (arith, number-zero n (omega arith))
-    ]

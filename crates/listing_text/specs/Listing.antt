@@ -1,10 +1,9 @@
 -- The listing of a row (paper 01, "The listing"; "When a call says no": Listing program).
-use Rattle.std.specs.Prelude.{◌≡◌, not, List, ◌++◌, ℕ, ltb, length, get_or, drop}
+use Rattle.std.specs.Prelude.{◌≡◌, not, List, ◌++◌, ℕ, ltb, length, get_or, drop, Ok, Err}
 use Rattle.columns.specs.Columns.{ascii, column}
 use Rattle.calls.specs.declared.Refusal.TheVariants.{TooMuchInput, BadLine}
-use Rattle.calls.specs.declared.CountAnswer.{CountAnswer}
 use Rattle.calls.specs.Refusals.{reason}
-use Rattle.calls.specs.Calls.{Outcome, accepted, refused, check, and_then, buffer, count_outcome}
+use Rattle.calls.specs.Calls.{Outcome, check, and_then, buffer}
 use Rattle.calls.specs.Limits.{max_bytes}
 use Rattle.calls.specs.Reading.{counted}
 use Rattle.encoder.specs.Writing.{write}
@@ -21,7 +20,7 @@ refusal_line number = ascii "NO" ++ column 5 number ++ ascii "\n"
 
 -- The checks of writing, and the listing
 unfoldable pub listing_of : ℕ → List ℕ → Outcome (List ℕ)
-listing_of m row = and_then (write m row max_bytes) (λ x. accepted (lines m row x.0))
+listing_of m row = and_then (write m row max_bytes) (λ x. Ok (lines m row x.0))
 
 -- Listing program: 4 input above 45,067 bytes; 13 an input line of another form, or no line; then write's checks. The first number is the order, the
 -- others are the row
@@ -33,8 +32,8 @@ listing s =
 
 -- What is printed of a listing or a refusal
 abbrev pub printed : Outcome (List ℕ) → List ℕ
-printed (accepted t) = t
-printed (refused r) = refusal_line (reason r).0
+printed (Ok t) = t
+printed (Err r) = refusal_line (reason r).0
 
 unfoldable pub text : List ℕ → List ℕ
 text s = printed (listing s)
@@ -48,8 +47,8 @@ unfoldable pub put_into : List ℕ → List ℕ → List ℕ
 put_into t before = buffer (put t (length before)) t before
 
 -- What is answered, and the buffer before and after
-abbrev pub Puts : List ℕ → List ℕ → CountAnswer → List ℕ → Type 0
-Puts t before answer after = (count_outcome answer ≡ put t (length before)) × (after ≡ put_into t before)
+abbrev pub Puts : List ℕ → List ℕ → Outcome ℕ → List ℕ → Type 0
+Puts t before answer after = (answer ≡ put t (length before)) × (after ≡ put_into t before)
 
 -- How many bytes a text has at most: the header, a line for each number of the longest row, and the last line
 abbrev pub max_text_bytes : ℕ

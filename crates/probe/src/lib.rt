@@ -19,6 +19,8 @@ ghost use Rattle.listing_text.specs.Listing.{text, put, put_into};
 ghost use Rattle.answers.specs.Leaves.{single, pair, three, headed, values};
 ghost use Rattle.probe.specs.Leaves.{told};
 
+use answers::Answer;
+
 // Element i becomes x; where i is past the end, nothing changes.
 fn store(list: &mut [u64], i: usize, x: u64)
     ensures { list.new ≡ set list.old i x }
@@ -29,7 +31,7 @@ fn store(list: &mut [u64], i: usize, x: u64)
 }
 
 // The six numbers from the front of a list, as far as it has room.
-fn tell(answer: &mut [u64], a: answers::Answer)
+fn tell(answer: &mut [u64], a: Answer)
     ensures { answer.new ≡ sets answer.old 0 (values a) }
 {
     store(answer, 0, a.number);
@@ -45,10 +47,7 @@ pub extern "C" fn probe_write(order: usize, row: &[u32], out: &mut [u8], answer:
     ensures answer_after { answer.new ≡ told (headed (write order row.now (length out.old))) answer.old }
     ensures out_after { out.new ≡ write_into order row.now out.old }
 {
-    tell(
-        answer,
-        answers::of_encoding(encoder::write(order, row, out)),
-    );
+    tell(answer, Answer::from(encoder::write(order, row, out)));
 }
 
 #[unsafe(no_mangle)]
@@ -56,7 +55,7 @@ pub extern "C" fn probe_read(order: usize, s: &[u8], out: &mut [u32], answer: &m
     ensures answer_after { answer.new ≡ told (single (read order s.now (length out.old))) answer.old }
     ensures out_after { out.new ≡ read_into order s.now out.old }
 {
-    tell(answer, answers::of_count(decoder::read(order, s, out)));
+    tell(answer, Answer::from(decoder::read(order, s, out)));
 }
 
 #[unsafe(no_mangle)]
@@ -64,7 +63,7 @@ pub extern "C" fn probe_table_read(s: &[u8], out: &mut [u32], answer: &mut [u64]
     ensures answer_after { answer.new ≡ told (single (read_table s.now (length out.old))) answer.old }
     ensures out_after { out.new ≡ read_table_into s.now out.old }
 {
-    tell(answer, answers::of_count(table_decoder::read(s, out)));
+    tell(answer, Answer::from(table_decoder::read(s, out)));
 }
 
 #[unsafe(no_mangle)]
@@ -72,7 +71,7 @@ pub extern "C" fn probe_table_read_bytes(s: &[u8], out: &mut [u8], answer: &mut 
     ensures answer_after { answer.new ≡ told (single (read_bytes s.now (length out.old))) answer.old }
     ensures out_after { out.new ≡ read_bytes_into s.now out.old }
 {
-    tell(answer, answers::of_count(table_decoder::read_bytes(s, out)));
+    tell(answer, Answer::from(table_decoder::read_bytes(s, out)));
 }
 
 #[unsafe(no_mangle)]
@@ -87,7 +86,7 @@ pub extern "C" fn probe_dense_write(
 {
     tell(
         answer,
-        answers::of_count(dense_encoder::write(stoppers, row, out)),
+        Answer::from(dense_encoder::write(stoppers, row, out)),
     );
 }
 
@@ -96,17 +95,14 @@ pub extern "C" fn probe_dense_read(stoppers: usize, b: &[u8], out: &mut [u32], a
     ensures answer_after { answer.new ≡ told (single (read_dense stoppers b.now (length out.old))) answer.old }
     ensures out_after { out.new ≡ read_dense_into stoppers b.now out.old }
 {
-    tell(
-        answer,
-        answers::of_count(dense_decoder::read(stoppers, b, out)),
-    );
+    tell(answer, Answer::from(dense_decoder::read(stoppers, b, out)));
 }
 
 #[unsafe(no_mangle)]
 pub extern "C" fn probe_header(order: usize, s: &[u8], answer: &mut [u64])
     ensures { answer.new ≡ told (three (read_header order s.now)) answer.old }
 {
-    tell(answer, answers::of_header(header_reader::read(order, s)));
+    tell(answer, Answer::from(header_reader::read(order, s)));
 }
 
 #[unsafe(no_mangle)]
@@ -125,7 +121,7 @@ pub extern "C" fn probe_append(
     let header = headers::Header { bits, count, total };
     tell(
         answer,
-        answers::of_encoding(appender::append(order, buf, header, n)),
+        Answer::from(appender::append(order, buf, header, n)),
     );
 }
 
@@ -143,7 +139,7 @@ pub extern "C" fn probe_replace(
 {
     tell(
         answer,
-        answers::of_encoding(replacer::replace(order, buf, used, place, n)),
+        Answer::from(replacer::replace(order, buf, used, place, n)),
     );
 }
 
@@ -160,7 +156,7 @@ pub extern "C" fn probe_preview(
 {
     tell(
         answer,
-        answers::of_encoding(replacer::preview(order, buf, used, place, n)),
+        Answer::from(replacer::preview(order, buf, used, place, n)),
     );
 }
 
@@ -168,7 +164,7 @@ pub extern "C" fn probe_preview(
 pub extern "C" fn probe_total(order: usize, s: &[u8], a: usize, b: usize, answer: &mut [u64])
     ensures { answer.new ≡ told (single (total order s.now a b)) answer.old }
 {
-    tell(answer, answers::of_total(totals::total(order, s, a, b)));
+    tell(answer, Answer::from(totals::total(order, s, a, b)));
 }
 
 #[unsafe(no_mangle)]
@@ -183,7 +179,7 @@ pub extern "C" fn probe_repeated_total(
 {
     tell(
         answer,
-        answers::of_total(totals::repeated_total(order, s, repeats, shared)),
+        Answer::from(totals::repeated_total(order, s, repeats, shared)),
     );
 }
 
@@ -200,7 +196,7 @@ pub extern "C" fn probe_build(
 {
     tell(
         answer,
-        answers::of_count(wavelet_build::build(order, alphabet, row, out)),
+        Answer::from(wavelet_build::build(order, alphabet, row, out)),
     );
 }
 
@@ -217,7 +213,7 @@ pub extern "C" fn probe_extract(
 {
     tell(
         answer,
-        answers::of_question(wavelet_query::extract(order, alphabet, len, index, i)),
+        Answer::from(wavelet_query::extract(order, alphabet, len, index, i)),
     );
 }
 
@@ -235,7 +231,7 @@ pub extern "C" fn probe_rank(
 {
     tell(
         answer,
-        answers::of_question(wavelet_query::rank(order, alphabet, len, index, n, i)),
+        Answer::from(wavelet_query::rank(order, alphabet, len, index, n, i)),
     );
 }
 
@@ -253,7 +249,7 @@ pub extern "C" fn probe_select(
 {
     tell(
         answer,
-        answers::of_question(wavelet_query::select(order, alphabet, len, index, n, j)),
+        Answer::from(wavelet_query::select(order, alphabet, len, index, n, j)),
     );
 }
 
@@ -262,5 +258,5 @@ pub extern "C" fn probe_listing(input: &[u8], out: &mut [u8], answer: &mut [u64]
     ensures answer_after { answer.new ≡ told (single (put (text input.now) (length out.old))) answer.old }
     ensures out_after { out.new ≡ put_into (text input.now) out.old }
 {
-    tell(answer, answers::of_count(listing_text::listing(input, out)));
+    tell(answer, Answer::from(listing_text::listing(input, out)));
 }

@@ -1,38 +1,26 @@
 // The ones of any range of the bits of a byte slice, and the place of a bit in it, by words.
 #![tactic(auto)]
 
-ghost use Rattle.std.specs.Prelude.{◌≡◌, true, ◌+◌, ◌*◌, ◌/◌, ◌^◌, ◌≤◌, ◌<◌, length, take};
+ghost use Rattle.std.specs.Prelude.{◌≡◌, true, ◌+◌, ◌*◌, ◌^◌, ◌≤◌, ◌<◌, length, take};
 ghost use Rattle.bits.specs.Bits.{unpack, count, select_bit};
-ghost use Rattle.rank_select.specs.Leaves.{range, Skips};
+ghost use Rattle.rank_select.specs.Ranges.{range};
 
-// How many ones the whole words among the first q bytes have.
-// Requires: q bytes are there, and their bits can be counted, which `ones_before` shows.
-fn ones_of_words(s: &[u8], q: usize) -> usize
-    requires { (q ≤ length s.now) × (8 * q < 2 ^ 64) }
-    ensures { result ≡ count true (unpack (take (8 * (q / 8)) s.now)) }
+// How many ones eight bytes have, counted as those of a word.
+fn ones_of_word(w: &[u8; 8]) -> usize
+    ensures { result ≡ count true (unpack w.now) }
 {
-    let mut n: usize = 0;
-    let mut i: usize = 0;
-    while i + 8 <= q {
-        n += u64::count_ones(bits::word(s, i)) as usize;
-        i += 8;
-    }
-    n
+    u64::from_be_bytes(*w).count_ones() as usize
 }
 
-// How many ones the bytes from `from` up to but without `to` have.
-// Requires: these bytes are there, and their bits can be counted, which `ones_before` shows.
-fn ones_of_bytes(s: &[u8], from: usize, to: usize) -> usize
-    requires { (from ≤ to) × (to ≤ length s.now) × (8 * to < 2 ^ 64) }
-    ensures { count true (unpack (take from s.now)) + result ≡ count true (unpack (take to s.now)) }
+// How many ones the bytes have: eight bytes at a time, and those that are left one by one. Requires: their bits can be counted, which `ones_before` shows.
+fn ones(s: &[u8]) -> usize
+    requires { 8 * length s.now < 2 ^ 64 }
+    ensures { result ≡ count true (unpack s.now) }
 {
-    let mut n: usize = 0;
-    let mut i = from;
-    while i < to {
-        n += u64::count_ones(bits::wide(s[i])) as usize;
-        i += 1;
-    }
-    n
+    let (words, bytes) = s.as_chunks::<8>();
+    let of_words: usize = words.iter().map(ones_of_word).sum();
+    let of_bytes: usize = bytes.iter().map(|b| b.count_ones() as usize).sum();
+    of_words + of_bytes
 }
 
 // How many of the first e bits are ones.
@@ -43,12 +31,12 @@ pub fn ones_before(s: &[u8], e: usize) -> usize
 {
     let q = e / 8;
     let j = e % 8;
-    let whole = ones_of_words(s, q) + ones_of_bytes(s, 8 * (q / 8), q);
+    let whole = ones(&s[..q]);
     if j == 0 {
         return whole;
     }
-    let last = bits::wide(s[q]) >> (8 - j);
-    whole + u64::count_ones(last) as usize
+    let last = s[q] >> (8 - j);
+    whole + last.count_ones() as usize
 }
 
 // How many of the k bits from bit `from` on are ones. The bits before are counted too, so a caller hands on the part of its bytes that begins with the
@@ -61,15 +49,13 @@ pub fn ones_from(s: &[u8], from: usize, k: usize) -> usize
     ones_before(s, from + k) - ones_before(s, from)
 }
 
-// How many of the n bits from bit `at` on are v. Only the bytes that hold them are read.
-// Requires: what `ones_from` requires, which `skip` shows of each step.
-fn count_from(s: &[u8], at: usize, n: usize, v: bool) -> usize
-    requires { (at + n ≤ 8 * length s.now) × (at + n < 2 ^ 64) }
-    ensures { result ≡ count v (range at n s.now) }
-{
-    let a = at / 8;
-    let ones = ones_from(&s[a..], at % 8, n);
-    if v { ones } else { n - ones }
+// The len bits of a byte slice from bit `from` on.
+#[derive(Clone, Copy)]
+struct Range<'a> {
+    bytes: &'a [u8],
+    from: usize,
+    len: usize,
+    ghost within: { (from + len ≤ 8 * length bytes.now) × (from + len < 2 ^ 64) },
 }
 
 // How far the search for a bit has come: to bit `at` of the range, with `left` bits of its kind still to be skipped.
@@ -79,25 +65,41 @@ struct Skipped {
     left: usize,
 }
 
-// Skips steps of `step` bits as long as a whole step is there and the bits v in it are no more than are still to be skipped, so that the bit searched for
-// stays the same.
-// Requires: what `ones_from` requires, a step of at least one bit, and a start in the range, which `select_bit` shows: it begins at bit 0 and goes on where
-// a call has stopped.
-fn skip(s: &[u8], from: usize, k: usize, v: bool, step: usize, start: Skipped) -> Skipped
-    requires { (from + k ≤ 8 * length s.now) × (from + k < 2 ^ 64) × (1 ≤ step) × (start.at ≤ k) }
-    ensures { Skips v step k (range from k s.now) start result }
-{
-    let mut at = start.at;
-    let mut left = start.left;
-    while step <= k - at {
-        let here = count_from(s, from + at, step, v);
-        if here > left {
-            return Skipped { at, left };
-        }
-        left -= here;
-        at += step;
+impl<'a> Range<'a> {
+    ghost use Rattle.rank_select.specs.Leaves.{bits_of, Skips};
+
+    // How many of the bits are v. Only the bytes that hold them are read.
+    fn count(self, v: bool) -> usize
+        ensures { result ≡ count v (bits_of self.entry) }
+    {
+        let first = self.from / 8;
+        let ones = ones_from(&self.bytes[first..], self.from % 8, self.len);
+        if v { ones } else { self.len - ones }
     }
-    Skipped { at, left }
+
+    // Skips steps of `step` bits as long as a whole step is there and the bits v in it are no more than are still to be skipped, so that the bit searched for
+    // stays the same.
+    // Requires: a step of at least one bit, and a start in the range, which `select_bit` shows: it begins at bit 0 and goes on where a call has stopped.
+    fn skip(self, v: bool, step: usize, start: Skipped) -> Skipped
+        requires { (1 ≤ step) × (start.at ≤ self.len) }
+        ensures { Skips v step self.entry.len (bits_of self.entry) start result }
+    {
+        let Skipped { mut at, mut left } = start;
+        while step <= self.len - at {
+            let next = Range {
+                bytes: self.bytes,
+                from: self.from + at,
+                len: step,
+            };
+            let here = next.count(v);
+            if here > left {
+                break;
+            }
+            left -= here;
+            at += step;
+        }
+        Skipped { at, left }
+    }
 }
 
 // The place of the bit v that has j others of its kind before it, among the k bits from bit `from` on; k where there is none. Steps of a word are
@@ -107,8 +109,13 @@ pub fn select_bit(s: &[u8], from: usize, k: usize, v: bool, j: usize) -> usize
     requires { (from + k ≤ 8 * length s.now) × (from + k < 2 ^ 64) }
     ensures { result ≡ select_bit v j (range from k s.now) }
 {
-    let words = skip(s, from, k, v, 64, Skipped { at: 0, left: j });
-    let bytes = skip(s, from, k, v, 8, words);
-    let bits = skip(s, from, k, v, 1, bytes);
+    let all = Range {
+        bytes: s,
+        from,
+        len: k,
+    };
+    let words = all.skip(v, 64, Skipped { at: 0, left: j });
+    let bytes = all.skip(v, 8, words);
+    let bits = all.skip(v, 1, bytes);
     bits.at
 }

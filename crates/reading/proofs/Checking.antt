@@ -17,7 +17,7 @@ use Rattle.codes.proofs.Codes.{all-positive}
 use Rattle.fibonacci.specs.Code.{ones, value, first, number}
 use Rattle.fibonacci.specs.Encoding.{parse, numbers}
 use Rattle.calls.specs.declared.Refusal.TheVariants.{BadRest}
-use Rattle.calls.specs.Calls.{accepted, refused, check}
+use Rattle.calls.specs.Calls.{check}
 use Rattle.calls.specs.Limits.{is_number, Legal, max_number, max_count}
 use Rattle.calls.specs.Reading.{contents}
 use Rattle.calls.proofs.Checks.{both, number_is}
@@ -27,6 +27,7 @@ use Rattle.fibonacci.proofs.Numeration.{F-pos}
 use Rattle.fibonacci.proofs.Numbers.{first_pos}
 use Rattle.reading.specs.Reading.{is_bad_rest, fibonacci}
 use Rattle.reading.specs.Leaves.{NumberOf, is_padding}
+use Rattle.std.specs.Prelude.{Ok, Err}
 
 -- ## Pending bits at the end
 
@@ -95,17 +96,17 @@ rest-good r l c = simp (lt-leb 8 (length r) l, lt-leb 1 (count true r) (omega ar
 -- The numbers `done` have passed their checks, no codeword is left, and the rest decides
 module _ (limit m : ℕ) (s done : List ℕ) (legal : Legal limit done) (words : List (List Bool)) (r : List Bool) (e : parse m (unpack s) ≡ parsed words r)
     (w : map (number m) words ≡ done) (l : length done ≤ max_count) where
-  ended : contents (fibonacci m) limit s ≡ check BadRest (is_bad_rest r) (accepted done)
+  ended : contents (fibonacci m) limit s ≡ check BadRest (is_bad_rest r) (Ok done)
   unfolding numbers
   ended =
       contents-end (fibonacci m) limit s done legal (ap (λ (p : Parse Bool). map (number m) (codewords p)) e ∙ w) l
-      ∙ ap (λ (p : Parse Bool). check BadRest (is_bad_rest (rest p)) (accepted done)) e
+      ∙ ap (λ (p : Parse Bool). check BadRest (is_bad_rest (rest p)) (Ok done)) e
 
-  pub contents-rest : (8 ≤ length r) ⊎ (1 ≤ count true r) → contents (fibonacci m) limit s ≡ refused BadRest
-  contents-rest c = ended ∙ ap (λ (t : Bool). check BadRest t (accepted done)) (rest-bad r c)
+  pub contents-rest : (8 ≤ length r) ⊎ (1 ≤ count true r) → contents (fibonacci m) limit s ≡ Err BadRest
+  contents-rest c = ended ∙ ap (λ (t : Bool). check BadRest t (Ok done)) (rest-bad r c)
 
-  pub contents-good : length r < 8 → count true r ≡ 0 → contents (fibonacci m) limit s ≡ accepted done
-  contents-good h z = ended ∙ ap (λ (t : Bool). check BadRest t (accepted done)) (rest-good r h z)
+  pub contents-good : length r < 8 → count true r ≡ 0 → contents (fibonacci m) limit s ≡ Ok done
+  contents-good h z = ended ∙ ap (λ (t : Bool). check BadRest t (Ok done)) (rest-good r h z)
 
 -- ## Numbers of codewords
 

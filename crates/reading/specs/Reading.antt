@@ -4,8 +4,7 @@ use Rattle.bits.specs.Bits.{unpack, count}
 use Rattle.codes.specs.Parse.{rest}
 use Rattle.fibonacci.specs.Encoding.{parse, numbers}
 use Rattle.calls.specs.declared.Refusal.TheVariants.{BadOrder, BadRest}
-use Rattle.calls.specs.declared.CountAnswer.{CountAnswer}
-use Rattle.calls.specs.Calls.{Outcome, check, and_then, buffer, count_outcome}
+use Rattle.calls.specs.Calls.{Outcome, check, and_then, buffer}
 use Rattle.calls.specs.Limits.{is_order, max_number, max_bytes}
 use Rattle.calls.specs.Reading.{Code, decode, counted}
 
@@ -27,5 +26,5 @@ unfoldable pub read_into : ℕ → List ℕ → List ℕ → List ℕ
 read_into m s before = buffer (read m s (length before)) (numbers m (unpack s)) before
 
 -- What a reader of order m promises of its answer, and of its output before and after
-abbrev pub ReadPromise : ℕ → List ℕ → List ℕ → CountAnswer → List ℕ → Type 0
-ReadPromise m s before a after = (count_outcome a ≡ read m s (length before)) × (after ≡ read_into m s before)
+abbrev pub ReadPromise : ℕ → List ℕ → List ℕ → Outcome ℕ → List ℕ → Type 0
+ReadPromise m s before a after = (a ≡ read m s (length before)) × (after ≡ read_into m s before)

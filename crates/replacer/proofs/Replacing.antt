@@ -1,5 +1,5 @@
 -- What replacing answers and leaves behind.
-use mathlib.Core.Path.{◌≡◌, refl, sym, ap, ap₂, subst, ◌∙◌}
+use mathlib.Core.Path.{◌≡◌, refl, sym, ap, ap₂, ◌∙◌}
 use mathlib.Core.Bool.{Bool, true, false, not}
 use mathlib.Core.List.{List, ◌++◌, append_assoc}
 use Prim.Native.Nat.{ℕ, ◌+◌, ◌-◌, ◌*◌, ◌≤◌, ◌<◌, max}
@@ -12,29 +12,27 @@ use Rattle.lists.proofs.Each.{all_set}
 use Rattle.bits.specs.Bits.{Bytes, unpack, byte_count}
 use Rattle.bits.specs.Leaves.{fit}
 use Rattle.bits.proofs.Bytes.{unpack-length}
-use Rattle.bits.proofs.Count.{none-zeros}
 use Rattle.codes.specs.Parse.{rest}
 use Rattle.fibonacci.specs.Code.{codeword}
 use Rattle.fibonacci.specs.Encoding.{row_bits, encoding, parse, numbers}
 use Rattle.fibonacci.proofs.Lookup.{codeword-bits}
-use Rattle.fibonacci.proofs.Rows.{numbers-bits, encoding-length, bits-few}
+use Rattle.fibonacci.proofs.Rows.{encoding-length, bits-few}
 use Rattle.calls.specs.declared.Refusal.{Refusal}
 use Rattle.calls.specs.declared.Refusal.TheVariants.{BadOrder, PastBuffer, BadPlace, BadNumber, NoRoom}
-use Rattle.calls.specs.Calls.{accepted, refused}
 use Rattle.calls.specs.Limits.{is_order, Order, is_number, is_outside, max_number, max_bytes}
 use Rattle.calls.specs.Reading.{decode}
 use Rattle.calls.proofs.Checks.{order_is, number-inside, inside-number, number-outside, check-passed, then-passed, accepted-one}
 use Rattle.reading.specs.Reading.{fibonacci}
-use Rattle.reading.proofs.Decoding.{decode_is, decoded-rest}
+use Rattle.reading.proofs.Decoding.{decode_is, decoded-bits}
 use Rattle.headers.specs.declared.Header.{Header}
 use Rattle.headers.specs.Headers.{header_of, max_bits}
-use Rattle.bit_moves.specs.Leaves.{splice}
+use Rattle.bit_moves.specs.Splices.{splice}
 use Rattle.bit_moves.proofs.Splices.{splice-packed}
 use Rattle.replacer.specs.declared.Replacement.{Replacement}
-use Rattle.replacer.specs.declared.Planned.{Planned}
-use Rattle.replacer.specs.Leaves.{Puts, Plans}
+use Rattle.replacer.specs.Leaves.{Puts}
 use Rattle.replacer.specs.Replacing.{change, replace, filled, replace_into}
 use Rattle.replacer.proofs.Rows.{start, was, start-within, splice-row}
+use Rattle.std.specs.Prelude.{Ok, Err}
 
 -- ## A number for another of a row
 
@@ -48,7 +46,7 @@ module _ (m room : ℕ) (row : List ℕ) (p n : ℕ) where
   abbrev pub changed : ℕ × Header
   changed = (length (encoding m (set row p n)), header_of m (set row p n))
 
-  pub change-is : (x : ℕ × Header) → change m room row p n ≡ accepted x → Changeable × (x ≡ changed)
+  pub change-is : (x : ℕ × Header) → change m room row p n ≡ Ok x → Changeable × (x ≡ changed)
   unfolding change
   change-is x e =
       let p8 = check-passed BadPlace (leb (length row) p) _ _ e in
@@ -58,56 +56,56 @@ module _ (m room : ℕ) (row : List ℕ) (p n : ℕ) where
         sym (accepted-one p5.1),
       )
 
-  pub change-accepts : Changeable → change m room row p n ≡ accepted changed
+  pub change-accepts : Changeable → change m room row p n ≡ Ok changed
   unfolding change
   change-accepts c = rw (lt-leb (length row) p c.within, number-inside max_number n c.legal, le-ltb room _ c.fits) refl
 
   -- with the header of the changed row at hand
-  pub change-header : (h : Header) → h ≡ header_of m (set row p n) → Changeable → change m room row p n ≡ accepted (byte_count h.bits, h)
+  pub change-header : (h : Header) → h ≡ header_of m (set row p n) → Changeable → change m room row p n ≡ Ok (byte_count h.bits, h)
   change-header h e c =
       let b : length (encoding m (set row p n)) ≡ byte_count h.bits = encoding-length m (set row p n) ∙ ap (λ (g : Header). byte_count g.bits) (sym e) in
-      change-accepts c ∙ ap₂ (λ (k : ℕ) (g : Header). accepted (k, g)) b (sym e)
+      change-accepts c ∙ ap₂ (λ (k : ℕ) (g : Header). Ok (k, g)) b (sym e)
 
-  pub change-place : length row ≤ p → change m room row p n ≡ refused BadPlace
+  pub change-place : length row ≤ p → change m room row p n ≡ Err BadPlace
   unfolding change
   change-place h = rw (le-leb (length row) p h) refl
 
   module _ (h : p < length row) where
-    pub change-number : is_number max_number n ≡ false → change m room row p n ≡ refused (BadNumber 0)
+    pub change-number : is_number max_number n ≡ false → change m room row p n ≡ Err (BadNumber 0)
     unfolding change
     change-number f = rw (lt-leb (length row) p h, number-outside max_number n f) refl
 
-    pub change-room : is_number max_number n ≡ true → room < length (encoding m (set row p n)) → change m room row p n ≡ refused NoRoom
+    pub change-room : is_number max_number n ≡ true → room < length (encoding m (set row p n)) → change m room row p n ≡ Err NoRoom
     unfolding change
     change-room legal l = rw (lt-leb (length row) p h, number-inside max_number n legal, lt-ltb room _ l) refl
 
 -- ## In a buffer
 
 module _ (m : ℕ) (before : List ℕ) (used p n : ℕ) where
-  pub replace-order : is_order m ≡ false → replace m before used p n ≡ refused BadOrder
+  pub replace-order : is_order m ≡ false → replace m before used p n ≡ Err BadOrder
   unfolding replace
   replace-order o = rw o refl
 
   module _ (o : is_order m ≡ true) where
-    pub replace-past : length before < used → replace m before used p n ≡ refused PastBuffer
+    pub replace-past : length before < used → replace m before used p n ≡ Err PastBuffer
     unfolding replace
     replace-past h = rw (o, lt-ltb (length before) used h) refl
 
     module _ (i : used ≤ length before) where
-      pub replace-unread : (r : Refusal) → decode (fibonacci m) max_number (take used before) ≡ refused r → replace m before used p n ≡ refused r
+      pub replace-unread : (r : Refusal) → decode (fibonacci m) max_number (take used before) ≡ Err r → replace m before used p n ≡ Err r
       unfolding replace
       replace-unread r e = rw (o, le-ltb (length before) used i, e) refl
 
-      pub replace-read : (row : List ℕ) → decode (fibonacci m) max_number (take used before) ≡ accepted row → replace m before used p n ≡ change m (length before) row p n
+      pub replace-read : (row : List ℕ) → decode (fibonacci m) max_number (take used before) ≡ Ok row → replace m before used p n ≡ change m (length before) row p n
       unfolding replace
       replace-read row e = rw (o, le-ltb (length before) used i, e) refl
 
   -- an accepted one
-  module _ (x : ℕ × Header) (e : replace m before used p n ≡ accepted x) where
+  module _ (x : ℕ × Header) (e : replace m before used p n ≡ Ok x) where
     abbrev pub row : List ℕ
     row = numbers m (unpack (take used before))
 
-    pub replace-is : Order m × (used ≤ length before) × (decode (fibonacci m) max_number (take used before) ≡ accepted row) × Changeable m (length before) row p n
+    pub replace-is : Order m × (used ≤ length before) × (decode (fibonacci m) max_number (take used before) ≡ Ok row) × Changeable m (length before) row p n
         × (x ≡ changed m (length before) row p n)
     unfolding replace
     replace-is =
@@ -116,22 +114,19 @@ module _ (m : ℕ) (before : List ℕ) (used p n : ℕ) where
         let t = then-passed (decode (fibonacci m) max_number (take used before)) _ _ p2.1 in
         let is : t.0 ≡ row = (decode_is m max_number (take used before) t.0 t.1).is in
         let c = change-is m (length before) row p n x (rw is at t.2) in
-        (order_is m (not-false _ p1.0), ltb-false (length before) used p2.0, t.1 ∙ ap accepted is, c.0, c.1)
+        (order_is m (not-false _ p1.0), ltb-false (length before) used p2.0, t.1 ∙ ap Ok is, c.0, c.1)
 
 -- ## What it leaves behind
 
 module _ (m : ℕ) (before : List ℕ) (used p n : ℕ) where
-  pub replace-refused : (r : Refusal) → replace m before used p n ≡ refused r → before ≡ replace_into m before used p n
+  pub replace-refused : (r : Refusal) → replace m before used p n ≡ Err r → before ≡ replace_into m before used p n
   unfolding replace_into
   replace-refused r e = rw e refl
 
 -- the bits of a row that was read are followed by zeros
-module _ (m : ℕ) (s row : List ℕ) (o : Order m) (e : decode (fibonacci m) max_number s ≡ accepted row) where
+module _ (m : ℕ) (s row : List ℕ) (o : Order m) (e : decode (fibonacci m) max_number s ≡ Ok row) where
   pub read-zeros : unpack s ≡ row_bits m row ++ replicate (length (rest (parse m (unpack s)))) false
-  read-zeros =
-      let d = decode_is m max_number s row e in
-      let whole : row_bits m row ++ rest (parse m (unpack s)) ≡ unpack s = rw d.is (numbers-bits m (unpack s) (omega (arith, o))) in
-      sym whole ∙ ap (λ (l : List Bool). row_bits m row ++ l) (none-zeros (rest (parse m (unpack s))) (decoded-rest m max_number s row d).1)
+  read-zeros = decoded-bits m max_number s row (omega (arith, o)) (decode_is m max_number s row e)
 
   pub read-bits : length (row_bits m row) ≤ 8 * length s
   read-bits =
@@ -142,7 +137,7 @@ module _ (m : ℕ) (s row : List ℕ) (o : Order m) (e : decode (fibonacci m) ma
         unpack-length s,
       )
 
-module _ (m : ℕ) (before : List ℕ) (used p n : ℕ) (x : ℕ × Header) (e : replace m before used p n ≡ accepted x) where
+module _ (m : ℕ) (before : List ℕ) (used p n : ℕ) (x : ℕ × Header) (e : replace m before used p n ≡ Ok x) where
   abbrev old_row : List ℕ
   old_row = numbers m (unpack (take used before))
 
@@ -173,10 +168,6 @@ module _ (m : ℕ) (before : List ℕ) (used p n : ℕ) (x : ℕ × Header) (e :
       same ∙ ap₂ (λ (i j : ℕ). new ++ (replicate i 0 ++ drop j before)) z (sym k)
       ∙ sym (append_assoc new (replicate (used - length new) 0) (drop (length (filled m (set old_row p n) used)) before)) ∙ sym into
 
--- a plan for the number that was handed over, as it was found to be
-pub planned-as : (m : ℕ) (before : List ℕ) (used p : ℕ) {n k : ℕ} {x y : Planned} → k ≡ n → x ≡ y → Plans m before used p k x → Plans m before used p n y
-planned-as m before used p {n} {k} {x} {y} e f = λ h. subst (λ (i : ℕ). Plans m before used p i y) e (subst (λ (z : Planned). Plans m before used p k z) f h)
-
 -- what is planned is in use, and the buffer has room for what comes of it
 pub record Room (m : ℕ) (before : List ℕ) (used : ℕ) (x : Replacement) : Type 0 where
   pub used_fits : used ≤ length before
@@ -186,7 +177,7 @@ pub record Room (m : ℕ) (before : List ℕ) (used : ℕ) (x : Replacement) : T
   pub fits : byte_count x.header.bits ≤ length before
   pub most : x.header.bits ≤ max_bits
 
-pub planned-room : (m : ℕ) (before : List ℕ) (used p n : ℕ) (x : Replacement) → replace m before used p n ≡ accepted (byte_count x.header.bits, x.header)
+pub planned-room : (m : ℕ) (before : List ℕ) (used p n : ℕ) (x : Replacement) → replace m before used p n ≡ Ok (byte_count x.header.bits, x.header)
     → Puts m (numbers m (unpack (take used before))) p n x → Room m before used x
 planned-room m before used p n x e t =
     let i = replace-is m before used p n (byte_count x.header.bits, x.header) e in

@@ -14,13 +14,20 @@ use Rattle.fibonacci.proofs.Rows.{bits-append, bits-few}
 use Rattle.fibonacci.proofs.Sums.{sum-most}
 use Rattle.calls.specs.Limits.{Order, Legal, max_number, max_count}
 use Rattle.calls.proofs.Checks.{number_is, legal-at}
-use Rattle.headers.specs.Headers.{header, header_of}
-use Rattle.bit_moves.specs.Leaves.{splice}
+use Rattle.headers.specs.Headers.{header, header_of, max_bits, max_total}
+use Rattle.bit_moves.specs.Splices.{splice}
 use Rattle.bit_moves.proofs.Splices.{splice-length}
-use Rattle.decoder.specs.declared.Summary.{Summary}
-use Rattle.decoder.specs.Leaves.{summary}
-use Rattle.replacer.specs.declared.Replacement.{Replacement}
-use Rattle.replacer.specs.Leaves.{Replaceable, Changes, Puts}
+use Rattle.word_decoder.specs.declared.Summary.{Summary}
+use Rattle.word_decoder.specs.Leaves.{summary}
+
+-- What is told of a row of which one legal number was summed: that number and its codeword are part of it
+pub record Replaceable (m : ℕ) (told : Summary) : Type 0 where
+  pub some : 1 ≤ told.total
+  pub legal : told.total ≤ max_number
+  pub part : told.total ≤ told.all
+  pub codeword_part : length (codeword m told.total) ≤ told.bits
+  pub bits : told.bits ≤ max_bits
+  pub total : told.all ≤ max_total
 
 module _ (m : ℕ) (row : List ℕ) (p n : ℕ) (h : p < length row) where
   -- the bit where the place begins, and the number there
@@ -87,37 +94,30 @@ module _ (m : ℕ) (row : List ℕ) (p n : ℕ) (h : p < length row) where
     told-number : told.total ≡ was
     told-number = ap (λ (f : Summary). f.total) t ∙ one-sum q e
 
+    pub told-codeword : length (codeword m told.total) ≡ length (codeword m was)
+    told-codeword = ap (λ (k : ℕ). length (codeword m k)) told-number
+
     pub replaceable : Order m → Legal max_number row → length row ≤ max_count → Replaceable m told
     replaceable o legal long =
         let n = number_is max_number was (legal-at max_number row p legal h) in
         let bits = ap (λ (f : Summary). f.bits) t in
         let all = ap (λ (f : Summary). f.all) t in
-        let code : length (codeword m told.total) ≡ length (codeword m was) = ap (λ (k : ℕ). length (codeword m k)) told-number in
         record {
           some = omega (arith, n, told-number);
           legal = omega (arith, n, told-number);
           part = omega (arith, told-number, all, was-within);
-          codeword_part = omega (arith, code, bits, start-within);
+          codeword_part = omega (arith, told-codeword, bits, start-within);
           bits = omega (arith, bits, bits-few m row o legal, long);
           total = omega (arith, all, sum-most max_number (omega arith) row legal, long);
         }
 
-    module _ (x : Replacement) (c : Changes m told n x) where
-      pub puts : Puts m row p n x
-      puts =
-          record {
-            within = h;
-            start = c.start ∙ ap (λ (f : Summary). f.start) t;
-            old = c.old ∙ ap (λ (k : ℕ). length (codeword m k)) told-number;
-            word = c.word;
-          }
-
-      pub puts-header : x.header ≡ header_of m (set row p n)
-      puts-header =
-          let bits : told.bits - length (codeword m told.total) + length (codeword m n) ≡ length (row_bits m row) - length (codeword m was) + length (codeword m n) =
-          ap₂ (λ (b k : ℕ). b - length (codeword m k) + length (codeword m n)) (ap (λ (f : Summary). f.bits) t) told-number in
-          let count : told.count ≡ length row = ap (λ (f : Summary). f.count) t in
-          let total : told.all - told.total + n ≡ sum row - was + n = ap₂ (λ (a k : ℕ). a - k + n) (ap (λ (f : Summary). f.all) t) told-number in
-          let is = c.header_is in
-          let changed = changed-header in
-          cc
+    -- the header afterwards
+    pub told-changed : {old len : ℕ} → old ≡ length (codeword m told.total) → len ≡ length (codeword m n)
+        → header (told.bits - old + len) told.count (told.all - told.total + n) ≡ header_of m (set row p n)
+    told-changed {old} {len} eo el =
+        let bits : told.bits - old + len ≡ length (row_bits m row) - length (codeword m was) + length (codeword m n) =
+        omega (arith, ap (λ (f : Summary). f.bits) t, eo, told-codeword, el) in
+        let count : told.count ≡ length row = ap (λ (f : Summary). f.count) t in
+        let total : told.all - told.total + n ≡ sum row - was + n = omega (arith, ap (λ (f : Summary). f.all) t, told-number) in
+        let changed = changed-header in
+        cc

@@ -1,13 +1,12 @@
 -- Reading an encoding of order 3 by the table decoder (paper 01: the byte reader; "When a call says no": Read). The checks stand in the paper's order; it has
 -- no check 1.
-use Rattle.std.specs.Prelude.{◌≡◌, ℕ, ◌*◌, ◌/◌, ◌%◌, ltb, length}
+use Rattle.std.specs.Prelude.{◌≡◌, ℕ, ◌*◌, ◌/◌, ◌%◌, ltb, length, Ok}
 use mathlib.Core.List.{List, [], ◌∷◌, map, flatten}
 use Rattle.bits.specs.Bits.{unpack}
 use Rattle.codes.specs.Parse.{rest}
 use Rattle.fibonacci.specs.Encoding.{parse, numbers}
 use Rattle.calls.specs.declared.Refusal.TheVariants.{TooManyBytes, NoRoom, BadRest}
-use Rattle.calls.specs.declared.CountAnswer.{CountAnswer}
-use Rattle.calls.specs.Calls.{Outcome, accepted, check, and_then, buffer, count_outcome}
+use Rattle.calls.specs.Calls.{Outcome, check, and_then, buffer}
 use Rattle.calls.specs.Limits.{max_number, max_bytes}
 use Rattle.calls.specs.Reading.{check_finished, counted}
 use Rattle.reading.specs.Reading.{is_bad_rest}
@@ -18,7 +17,7 @@ decode_table s =
     check TooManyBytes (ltb max_bytes (length s))
     (check_finished max_number 0 (numbers 3 (unpack s))
     (check BadRest (is_bad_rest (rest (parse 3 (unpack s))))
-    (accepted (numbers 3 (unpack s)))))
+    (Ok (numbers 3 (unpack s)))))
 
 -- ## Into numbers: 5 the output is shorter than the row; else the count
 
@@ -30,8 +29,8 @@ unfoldable pub read_table_into : List ℕ → List ℕ → List ℕ
 read_table_into s before = buffer (read_table s (length before)) (numbers 3 (unpack s)) before
 
 -- What is promised of the answer, and of the output before and after
-abbrev pub ReadTablePromise : List ℕ → List ℕ → CountAnswer → List ℕ → Type 0
-ReadTablePromise s before a after = (count_outcome a ≡ read_table s (length before)) × (after ≡ read_table_into s before)
+abbrev pub ReadTablePromise : List ℕ → List ℕ → Outcome ℕ → List ℕ → Type 0
+ReadTablePromise s before a after = (a ≡ read_table s (length before)) × (after ≡ read_table_into s before)
 
 -- ## Into bytes, for a host: 5 there are fewer than four bytes for each number; else the count
 
@@ -45,11 +44,11 @@ row_bytes row = flatten (map number_bytes row)
 unfoldable pub read_bytes : List ℕ → ℕ → Outcome ℕ
 read_bytes s room = and_then (decode_table s) (λ row.
     check NoRoom (ltb room (4 * length row))
-    (accepted (length row)))
+    (Ok (length row)))
 
 -- The output after reading
 unfoldable pub read_bytes_into : List ℕ → List ℕ → List ℕ
 read_bytes_into s before = buffer (read_bytes s (length before)) (row_bytes (numbers 3 (unpack s))) before
 
-abbrev pub ReadBytesPromise : List ℕ → List ℕ → CountAnswer → List ℕ → Type 0
-ReadBytesPromise s before a after = (count_outcome a ≡ read_bytes s (length before)) × (after ≡ read_bytes_into s before)
+abbrev pub ReadBytesPromise : List ℕ → List ℕ → Outcome ℕ → List ℕ → Type 0
+ReadBytesPromise s before a after = (a ≡ read_bytes s (length before)) × (after ≡ read_bytes_into s before)

@@ -1,73 +1,55 @@
 // Reading an encoding of order 3 byte by byte, by a table of 768 rows.
 #![tactic(auto)]
 
-ghost use Rattle.std.specs.Prelude.{◌≡◌, ◌++◌, ◌+◌, ◌*◌, ◌≤◌, length, take, drop};
-ghost use Rattle.std.proofs.lemmas.List.Edits.{sets};
-ghost use Rattle.calls.specs.Limits.{max_number};
+ghost use Rattle.std.specs.Prelude.{◌≡◌, ◌++◌, ◌*◌, ◌≤◌, length, drop};
+ghost use Rattle.calls.specs.Leaves.{Scanned};
 ghost use Rattle.calls.specs.Reading.{decode};
 ghost use Rattle.reading.specs.Reading.{fibonacci};
-ghost use Rattle.table_scan.specs.Leaves.{ScanResult};
-ghost use Rattle.table_decoder.specs.Reading.{ReadTablePromise, number_bytes, row_bytes, ReadBytesPromise};
+ghost use Rattle.table_decoder.specs.Reading.{ReadTablePromise, row_bytes, ReadBytesPromise};
 
-use calls::{CountAnswer, Refusal};
+use calls::Refusal;
+use fibonacci::Order;
+use reading::Encoding;
+use table_scan::ROOM;
 
 // The scan of an encoding, whose numbers go up to a limit: its checks, and how many numbers the row has. The row goes to a list of the caller's own.
-// Requires: a limit of at most 4,294,967,295, and the list's length, which `read` and `read_bytes` show.
-fn scan_into(s: &[u8], limit: u64, row: &mut [u32; table_scan::ROOM]) -> CountAnswer
-    requires { (limit ≤ max_number) × (length row.old ≡ 4098) }
-    ensures { ScanResult (decode (fibonacci 3) limit s.now) result row.new }
+#[tactic(auto, unfolding(calls::specs::Limits::is_order))]
+fn scan_into(s: &[u8], limit: u32, row: &mut [u32; ROOM]) -> Result<usize, Refusal>
+    ensures { Scanned (decode (fibonacci 3) limit s.now) result row.new }
 {
-    if s.len() > calls::MAX_BYTES {
-        return CountAnswer::Refused(Refusal::TooManyBytes);
-    }
-    let heads = byte_table::heads();
-    let tails = byte_table::tails();
-    let positions = byte_table::positions_from_minus_two();
-    let firsts = fibonacci::first_numbers(3);
-    table_scan::walk(&heads, &tails, &positions, &firsts, s, limit, row)
+    let order = Order::new(3).unwrap();
+    table_scan::walk(Encoding::new(order, s, limit)?, row)
 }
 
 // Reads an encoding of order 3. The row goes to a list of its own first, as a refusal must leave the output as it was.
-pub fn read(s: &[u8], out: &mut [u32]) -> CountAnswer
+pub fn read(s: &[u8], out: &mut [u32]) -> Result<usize, Refusal>
     ensures { ReadTablePromise s.now out.old result out.new }
 {
-    let mut row: [u32; table_scan::ROOM] = [0; table_scan::ROOM];
-    let scanned = scan_into(s, calls::MAX_NUMBER, &mut row);
-    calls::deliver(scanned, &row, out)
+    let mut row: [u32; ROOM] = [0; ROOM];
+    let count = scan_into(s, calls::MAX_NUMBER, &mut row)?;
+    calls::deliver(&row[..count], out)
 }
 
-// A number as four bytes from byte i on, the lowest first. Requires: room for them, which `put_row` shows.
-fn put_number(out: &mut [u8], i: usize, n: u32)
-    requires { i + 4 ≤ length out.old }
-    ensures { out.new ≡ sets out.old i (number_bytes n) }
+// A row as bytes over those of a buffer, each number as four, the lowest first. Requires: room for them, which `read_bytes` checks.
+#[tactic(auto, using(crate::proofs::Answering::bytes_none, crate::proofs::Answering::bytes_more))]
+fn put_row(out: &mut [u8], row: &[u32])
+    requires { 4 * length row.now ≤ length out.old }
+    ensures { out.new ≡ row_bytes row.now ++ drop (4 * length row.now) out.old }
 {
-    out[i] = (n % 256) as u8;
-    out[i + 1] = (n / 256 % 256) as u8;
-    out[i + 2] = (n / 65536 % 256) as u8;
-    out[i + 3] = (n / 16777216 % 256) as u8;
-}
-
-// The first n numbers of a list as bytes over those of a buffer. Requires: so many numbers, and room for their bytes, which `read_bytes` shows or checks.
-fn put_row(out: &mut [u8], row: &[u32], n: usize)
-    requires { (n ≤ length row.now) × (4 * n ≤ length out.old) }
-    ensures { out.new ≡ row_bytes (take n row.now) ++ drop (4 * n) out.old }
-{
-    for i in 0..n {
-        put_number(out, 4 * i, row[i]);
+    for (i, n) in row.iter().enumerate() {
+        out[4 * i..4 * i + 4].copy_from_slice(&n.to_le_bytes());
     }
 }
 
 // Reads an encoding of order 3 for a host that takes each number as four bytes, the lowest first.
-pub fn read_bytes(s: &[u8], out: &mut [u8]) -> CountAnswer
+pub fn read_bytes(s: &[u8], out: &mut [u8]) -> Result<usize, Refusal>
     ensures { ReadBytesPromise s.now out.old result out.new }
 {
-    let mut row: [u32; table_scan::ROOM] = [0; table_scan::ROOM];
-    let scanned = scan_into(s, calls::MAX_NUMBER, &mut row);
-    if let CountAnswer::Count(count) = scanned {
-        if out.len() < 4 * count {
-            return CountAnswer::Refused(Refusal::NoRoom);
-        }
-        put_row(out, &row, count);
+    let mut row: [u32; ROOM] = [0; ROOM];
+    let count = scan_into(s, calls::MAX_NUMBER, &mut row)?;
+    if out.len() < 4 * count {
+        return Err(Refusal::NoRoom);
     }
-    scanned
+    put_row(out, &row[..count]);
+    Ok(count)
 }

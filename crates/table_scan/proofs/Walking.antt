@@ -1,12 +1,12 @@
 -- What a loop over the bytes of an encoding keeps, and where each of its steps leads.
-use mathlib.Core.Path.{◌≡◌, refl, sym, ap, ap₂, ◌∙◌, subst}
+use mathlib.Core.Path.{◌≡◌, refl, sym, ap, ap₂, ◌∙◌}
 use mathlib.Core.Bool.{Bool, true, false, ◌&&◌}
 use mathlib.Core.List.{List, [], ◌∷◌, ◌++◌, append_assoc, map, map-append}
-use Prim.Native.Nat.{ℕ, zero, suc, ◌+◌, ◌*◌, ◌^◌, ◌≤◌, ◌<◌}
+use Prim.Native.Nat.{ℕ, zero, suc, ◌+◌, ◌*◌, ◌^◌, ◌≤◌, ◌<◌, min}
 use native.Mathlib.Omega.{arith}
 use native.Mathlib.Decide.{dec_le}
 use lib.Dec.{ltb, eqb}
-use borrow.Author.Tests.{ne_eqb}
+use borrow.Author.Tests.{ne_eqb, lt-ltb, le-ltb, ltb-false}
 use lib.ListN.{length, get_or, take, length-append, length-map}
 use lib.Seq.{sets, length-sets}
 use Rattle.lists.proofs.Each.{all_append}
@@ -16,31 +16,41 @@ use Rattle.codes.specs.Rows.{Positive}
 use Rattle.codes.specs.Parse.{Parse, parsed, rest}
 use Rattle.fibonacci.specs.Code.{ones, first, number}
 use Rattle.fibonacci.specs.Encoding.{parse, numbers}
+use Rattle.calls.specs.declared.Refusal.{Refusal}
 use Rattle.calls.specs.declared.Refusal.TheVariants.{TooManyCodewords, BadRest}
-use Rattle.calls.specs.Calls.{accepted, refused}
+use Rattle.calls.specs.Leaves.{Scanned}
 use Rattle.calls.specs.Limits.{is_number, Legal, max_number, max_count}
 use Rattle.calls.specs.Reading.{contents}
-use Rattle.calls.proofs.Checks.{number_is, above-number}
+use Rattle.calls.proofs.Checks.{above-number, not-both, accepted-one, refused-one, check-passed, then-passed}
+use Rattle.calls.specs.Calls.{Outcome, check, and_then}
+use Rattle.table_scan.specs.declared.Pending.{Pending}
 use Rattle.byte_table.specs.declared.Row.{Row}
-use Rattle.byte_table.specs.Leaves.{without_trailing, trailing_ones, parse_byte, finishing, inside_numbers, value0, value1, value2, moved, row_of_parse, row_at, Small}
-use Rattle.calls.proofs.Decoding.{contents-many, contents-past}
+use Rattle.byte_table.specs.Leaves.{without_trailing, trailing_ones, parse_byte, finishing, inside_numbers, value0, value1, value2, moved, remains, row_of_parse, row_at, Small, IsRow}
+use Rattle.calls.proofs.Decoding.{contents-past}
 use Rattle.reading.specs.Reading.{fibonacci}
 use Rattle.reading.specs.Leaves.{NumberOf, is_padding}
 use Rattle.reading.proofs.Reached.{Reached, reached-start, reached-open, reached-shut, reached-numbers, reached-end}
 use Rattle.reading.proofs.Checking.{padding-is, padding-not, contents-rest, contents-good, number-positive, coded-positive, numbered-legal, numbered-large}
-use Rattle.table_scan.specs.Leaves.{Passes, fault_at}
-use Rattle.table_scan.proofs.Refusing.{none, refused-in}
+use Rattle.table_scan.specs.Leaves.{after, judged, stored}
+use Rattle.table_scan.proofs.Refusing.{judged-same, judged-fault, judged-passed}
 use Rattle.table_scan.proofs.Inside.{few-are, first_three, taken, open-parse, shut-parse}
-use Rattle.table_scan.proofs.Stepping.{without-settled, without-trailing, trailing-few, finishing-ones, row-after, bits-next, Pending, pending-none, pending-left, pending-more, pending-clamped, pending-near, pending-far}
+use Rattle.table_scan.proofs.Stepping.{without-settled, without-trailing, trailing-few, finishing-ones, row-after, bits-next, Known, pending-none, pending-left, pending-more, pending-clamped, pending-near, pending-far}
+use Rattle.std.specs.Prelude.{Ok, Err}
+
+-- ## What the scan leaves
+
+pub refuses : (found : Outcome (List ℕ)) (q : Refusal) (list : List ℕ) → found ≡ Err q → Scanned found (Err q) list
+refuses found q list e = rw e (refl, tt)
 
 -- ## What the loop keeps
 
-state-zero : (run : ℕ) {state : ℕ} → state ≡ 256 * run → eqb state 0 ≡ eqb run 0
-state-zero zero {state} e = ap (λ (n : ℕ). eqb n 0) e
-state-zero (suc run) {state} e = ne_eqb state 0 (λ z. omega arith) ∙ sym (ne_eqb (suc run) 0 (λ z. omega arith))
+-- There are no ones exactly where the rows begin at 0
+rows-none : (run : ℕ) {rows : ℕ} → rows ≡ 256 * run → eqb rows 0 ≡ eqb run 0
+rows-none zero {rows} e = ap (λ (n : ℕ). eqb n 0) e
+rows-none (suc run) {rows} e = ne_eqb rows 0 (λ z. omega arith) ∙ sym (ne_eqb (suc run) 0 (λ z. omega arith))
 
--- After i bytes: the numbers that ended are legal and stored, and what is pending is known by its length and value and by its ones, 256 for each
-pub record Walked (limit : ℕ) (s : List ℕ) (i : ℕ) (row : List ℕ) (count len val state : ℕ) : Type 0 where
+-- After i bytes: the numbers that ended are legal and stored, and what is pending is known by its length and value and by its ones, 256 rows for each
+pub record Walked (limit : ℕ) (s : List ℕ) (i : ℕ) (row : List ℕ) (count : ℕ) (left : Pending) : Type 0 where
   pub words : List (List Bool)
   pub body : List Bool
   pub run : ℕ
@@ -49,13 +59,13 @@ pub record Walked (limit : ℕ) (s : List ℕ) (i : ℕ) (row : List ℕ) (count
   pub most : count ≤ max_count
   pub legal : Legal limit (map (number 3) words)
   pub stored : take count row ≡ map (number 3) words
-  pub room : length row ≡ 4098
-  pub pending : Pending body len val
-  pub clamped : len ≤ 37
-  pub small : val ≤ 2 ^ 43 * i
-  pub at : state ≡ 256 * run
+  pub room : max_count + 3 ≤ length row
+  pub pending : Known body left.len left.value
+  pub clamped : left.len ≤ 37
+  pub small : left.value ≤ 2 ^ 43 * i
+  pub at : left.rows ≡ 256 * run
 
-pub walked_start : (limit : ℕ) (s row : List ℕ) → length row ≡ 4098 → Walked limit s 0 row 0 0 0 0
+pub walked_start : (limit : ℕ) (s row : List ℕ) → max_count + 3 ≤ length row → Walked limit s 0 row 0 (after (record { len = 0; value = 0; ones = 0 }))
 walked_start limit s row h =
     record {
       words = [];
@@ -73,23 +83,23 @@ walked_start limit s row h =
       at = refl;
     }
 
-module _ {limit : ℕ} {s : List ℕ} {i : ℕ} {row : List ℕ} {count len val state : ℕ} (k : Walked limit s i row count len val state) where
+module _ {limit : ℕ} {s : List ℕ} {i : ℕ} {row : List ℕ} {count : ℕ} {left : Pending} (k : Walked limit s i row count left) where
   abbrev done : List ℕ
   done = map (number 3) k.words
 
   done-long : length done ≡ count
   done-long = length-map k.words (number 3) ∙ k.many
 
-  pub walked-state : state ≤ 512
-  walked-state = omega (arith, k.at, k.reached.few)
-
   -- A step: a byte, its row, and what the row's bits are worth after those that are pending
   pub record Step (r : Row) (v : ℕ) : Type 0 where
     pub more : i < length s
     pub byte : get_or s i 0 < 256
-    pub row_is : r ≡ row_at (state + get_or s i 0)
+    pub row_is : r ≡ row_at (left.rows + get_or s i 0)
     pub few : Small r
-    pub value_is : v ≡ moved len r.coef0 r.coef1 r.coef2
+    pub value_is : v ≡ moved left.len r.coef0 r.coef1 r.coef2
+
+  pub looked-up : {b v : ℕ} {r : Row} → i < length s → b ≡ get_or s i 0 → b < 256 → IsRow (left.rows + b) r → v ≡ moved left.len r.coef0 r.coef1 r.coef2 → Step r v
+  looked-up more is byte row v = record { more = more; byte = rw (← is) byte; row_is = rw (← is) row.0; few = row.1; value_is = v }
 
   module _ {r : Row} {v : ℕ} (step : Step r v) where
     x : List Bool
@@ -107,14 +117,13 @@ module _ {limit : ℕ} {s : List ℕ} {i : ℕ} {row : List ℕ} {count len val 
     row_of = step.row_is ∙ ap (λ (m : ℕ). row_at (m + get_or s i 0)) k.at ∙ row-after k.run (get_or s i 0) step.byte
 
     -- the pending bits with the row's
-    grown : (q : List Bool) → r.len ≡ length q → r.coef0 ≡ value0 q → r.coef1 ≡ value1 q + value2 q → r.coef2 ≡ value1 q → Pending (k.body ++ q) (len + r.len) (val + v)
-    grown q l a b c = rw (step.value_is, l, a, b, c) (pending-more k.body len val q k.pending)
+    grown : (q : List Bool) → r.len ≡ length q → r.coef0 ≡ value0 q → r.coef1 ≡ value1 q + value2 q → r.coef2 ≡ value1 q → Known (k.body ++ q) (left.len + r.len) (left.value + v)
+    grown q l a b c = rw (step.value_is, l, a, b, c) (pending-more k.body left.len left.value q k.pending)
 
     -- no codeword ends
-    pub walked-open : r.count ≡ 0 → (len' : ℕ) → (len + r.len < 37 → len' ≡ len + r.len) → (37 ≤ len + r.len → len' ≡ 37) → v < 2 ^ 43
-        → Walked limit s (i + 1) row count len' (val + v) (256 * r.rest.ones)
-    unfolding row_of_parse finishing
-    walked-open none len' short long low =
+    pub walked-open : r.count ≡ 0 → v < 2 ^ 43 → Walked limit s (i + 1) row count (after (record { len = min (left.len + r.len) 37; value = left.value + v; ones = r.rest.ones }))
+    unfolding row_of_parse finishing remains
+    walked-open none low =
         let e : p ≡ parsed [] (rest p) = open-parse p (sym (ap (λ (r : Row). r.count) row_of) ∙ none) in
         let f : r ≡ row_of_parse (parsed [] (rest p)) = row_of ∙ ap row_of_parse e in
         let q : List Bool = without_trailing (rest p) in
@@ -131,9 +140,9 @@ module _ {limit : ℕ} {s : List ℕ} {i : ℕ} {row : List ℕ} {count len val 
           stored = k.stored;
           room = k.room;
           pending =
-              pending-clamped _ (len + r.len) len' _
-              (grown q (ap (λ (r : Row). r.len) f) (ap (λ (r : Row). r.coef0) f) (ap (λ (r : Row). r.coef1) f) (ap (λ (r : Row). r.coef2) f)) short long;
-          clamped = elim (dec_le 37 (len + r.len)) [ yes l ↦ omega (arith, long l) | no l ↦ omega (arith, short (omega arith)) ];
+              pending-clamped _ (left.len + r.len) _
+              (grown q (ap (λ (r : Row). r.len) f) (ap (λ (r : Row). r.coef0) f) (ap (λ (r : Row). r.coef1) f) (ap (λ (r : Row). r.coef2) f));
+          clamped = omega arith;
           small = omega (arith, k.small);
           at = ap (λ (r : Row). 256 * r.rest.ones) f;
         }
@@ -167,14 +176,14 @@ module _ {limit : ℕ} {s : List ℕ} {i : ℕ} {row : List ℕ} {count len val 
       ended_is : ended ≡ (k.body ++ q) ++ ones 3
       ended_is = ap (λ (w : List Bool). k.body ++ w) (finishing-ones _ cut.0 (rest p) cut.1 parse-cut) ∙ sym (append_assoc k.body q (ones 3))
 
-      pending-ended : Pending (k.body ++ q) (len + r.len) (val + v)
+      pending-ended : Known (k.body ++ q) (left.len + r.len) (left.value + v)
       unfolding row_of_parse
       pending-ended = grown q (ap (λ (r : Row). r.len) row_cut) (ap (λ (r : Row). r.coef0) row_cut) (ap (λ (r : Row). r.coef1) row_cut) (ap (λ (r : Row). r.coef2) row_cut)
 
-      ended-near : first 3 (len + r.len) ≤ max_number → number 3 ended ≡ first 3 (len + r.len) + (val + v)
+      ended-near : first 3 (left.len + r.len) ≤ max_number → number 3 ended ≡ first 3 (left.len + r.len) + (left.value + v)
       ended-near g = ap (number 3) ended_is ∙ pending-near _ _ _ pending-ended g
 
-      ended-far : max_number < first 3 (len + r.len) → max_number < number 3 ended
+      ended-far : max_number < first 3 (left.len + r.len) → max_number < number 3 ended
       ended-far g = rw ended_is (pending-far _ _ _ pending-ended g)
 
       count-is : r.count ≡ suc (length within)
@@ -204,14 +213,8 @@ module _ {limit : ℕ} {s : List ℕ} {i : ℕ} {row : List ℕ} {count len val 
       all-numbers : (later : List ℕ) × (numbers 3 (unpack s) ≡ (done ++ (number 3 ended ∷ within)) ++ later)
       all-numbers = let t = reached-numbers reached-next in (t.0, t.1 ∙ ap (λ (l : List ℕ). l ++ t.0) next-numbers)
 
-      -- it is one too many
-      pub walked_many : max_count ≤ count → contents (fibonacci 3) limit s ≡ refused TooManyCodewords
-      walked_many f =
-          contents-many (fibonacci 3) limit s done k.legal (number 3 ended) (within ++ all-numbers.0) (all-numbers.1 ∙ append_assoc done (number 3 ended ∷ within) all-numbers.0)
-          (omega (arith, done-long, k.most))
-
-      -- n was found for its number, and of the numbers that end so many pass
-      module _ (n : ℕ) (is : NumberOf 3 (len + r.len) (val + v) n) (top : limit ≤ max_number) (good : ℕ) (passes : Passes (is_number limit n) limit r.second r.third good) where
+      -- n was found for its number
+      module _ (n : ℕ) (is : NumberOf 3 (left.len + r.len) (left.value + v) n) (top : limit ≤ max_number) where
         -- n is legal where the number is
         alike : is_number limit n ≡ is_number limit (number 3 ended)
         alike = by (is_number limit n) refl
@@ -220,24 +223,20 @@ module _ {limit : ℕ} {s : List ℕ} {i : ℕ} {row : List ℕ} {count len val 
             by true e = ap (is_number limit) (numbered-legal 3 _ _ n is (number 3 ended) ended-near ended-far limit top e)
             by false e = e ∙ sym (above-number limit (number 3 ended) ended-pos (numbered-large 3 _ _ n is (number 3 ended) ended-near ended-far limit top e))
 
-        passes-within : Passes (is_number limit (number 3 ended)) limit (get_or within 0 0) (get_or within 1 0) good
-        passes-within = rw (← alike, ← second_is, ← third-is) passes
+        judged-within : judged count (is_number limit n) r.second r.third limit ≡ judged (length done) (is_number limit (number 3 ended)) (get_or within 0 0) (get_or within 1 0) limit
+        judged-within = judged-same limit (sym done-long) alike second_is third-is
 
-        pub walked-fault : good < 3 → contents (fibonacci 3) limit s ≡ refused (fault_at (count + good))
-        walked-fault l =
-            refused-in limit s done k.legal (number 3 ended) ended-pos within all-numbers.0 all-numbers.1 within-few within-pos good passes-within l
-            ∙ ap (λ (c : ℕ). refused (fault_at (c + good))) done-long
+        walked-fault : (q : Refusal) → judged count (is_number limit n) r.second r.third limit ≡ Err q → contents (fibonacci 3) limit s ≡ Err q
+        walked-fault q j =
+            judged-fault limit s done k.legal (number 3 ended) ended-pos within within-few within-pos all-numbers.0 all-numbers.1 q (sym judged-within ∙ j)
 
-        -- all pass
-        module _ (all : 3 ≤ good) where
+        -- all that end pass
+        module _ (good : judged count (is_number limit n) r.second r.third limit ≡ Ok tt) where
           legal : Legal limit (number 3 ended ∷ within)
-          legal = none limit (number 3 ended) ended-pos within within-few within-pos good passes-within all
+          legal = judged-passed limit (number 3 ended) ended-pos within within-few within-pos (length done) (sym judged-within ∙ good)
 
           n-is : n ≡ number 3 ended
           n-is = numbered-legal 3 _ _ n is (number 3 ended) ended-near ended-far limit top (alike ∙ legal.0)
-
-          pub walked-number : n ≤ max_number
-          walked-number = omega (arith, (number_is limit n (alike ∙ legal.0)).1)
 
           next-legal : Legal limit (done ++ (number 3 ended ∷ within))
           next-legal = all_append (λ n. is_number limit n ≡ true) done (number 3 ended ∷ within) k.legal legal
@@ -246,14 +245,14 @@ module _ {limit : ℕ} {s : List ℕ} {i : ℕ} {row : List ℕ} {count len val 
           next-long = omega (arith, length-append done (number 3 ended ∷ within), done-long, count-is)
 
           -- those inside the byte are too many
-          pub walked-past : max_count < count + r.count → contents (fibonacci 3) limit s ≡ refused TooManyCodewords
+          walked-past : max_count < count + r.count → contents (fibonacci 3) limit s ≡ Err TooManyCodewords
           walked-past f = contents-past (fibonacci 3) limit s (done ++ (number 3 ended ∷ within)) next-legal all-numbers.0 all-numbers.1 (omega (arith, next-long))
 
           abbrev new : List ℕ
           new = n ∷ r.second ∷ r.third ∷ []
 
-          pub walked-room : length (sets row count new) ≡ 4098
-          walked-room = length-sets row count new ∙ k.room
+          walked-room : max_count + 3 ≤ length (sets row count new)
+          walked-room = omega (arith, length-sets row count new, k.room)
 
           kept-is : count + r.count ≤ max_count → take (count + r.count) (sets row count new) ≡ done ++ (number 3 ended ∷ within)
           kept-is f =
@@ -261,11 +260,11 @@ module _ {limit : ℕ} {s : List ℕ} {i : ℕ} {row : List ℕ} {count len val 
               ∙ ap₂ ◌++◌ k.stored (ap (λ (c : ℕ). take c new) count-is
               ∙ first_three n-is second_is third-is (length within) ∙ ap (λ (l : List ℕ). number 3 ended ∷ l) (few-are within within-few))
 
-          pub walked-shut : count + r.count ≤ max_count
-              → Walked limit s (i + 1) (sets row count (n ∷ r.second ∷ r.third ∷ [])) (count + r.count) r.rest.len r.rest.value (256 * r.rest.ones)
-          unfolding row_of_parse
-          walked-shut f =
-              record {
+          shut : count + r.count ≤ max_count
+              → Walked limit s (i + 1) (sets row count (n ∷ r.second ∷ r.third ∷ [])) (count + r.count) (after r.rest)
+          unfolding row_of_parse remains
+          shut f =
+              rw (ap (λ (r : Row). r.rest) row_cut) (record {
                 words = k.words ++ (ended ∷ cut.1);
                 body = without_trailing (rest p);
                 run = trailing_ones (rest p);
@@ -275,33 +274,57 @@ module _ {limit : ℕ} {s : List ℕ} {i : ℕ} {row : List ℕ} {count len val 
                 legal = rw next-numbers next-legal;
                 stored = kept-is f ∙ sym next-numbers;
                 room = walked-room;
-                pending =
-                    subst (λ (l : ℕ). Pending (without_trailing (rest p)) l r.rest.value) (sym (ap (λ (r : Row). r.rest.len) row_cut))
-                    (subst (λ (v : ℕ). Pending (without_trailing (rest p)) (length (without_trailing (rest p))) v) (sym (ap (λ (r : Row). r.rest.value) row_cut))
-                    (pending-left (without_trailing (rest p)) (omega (arith, ap (λ (r : Row). r.rest.len) row_cut, step.few.rest_len))));
-                clamped = omega (arith, step.few.rest_len);
-                small = omega (arith, step.few.rest_value);
-                at = ap (λ (r : Row). 256 * r.rest.ones) row_cut;
-              }
+                pending = pending-left (without_trailing (rest p)) (omega (arith, ap (λ (r : Row). r.rest.len) row_cut, step.few.rest_len));
+                clamped = omega (arith, ap (λ (r : Row). r.rest.len) row_cut, step.few.rest_len);
+                small = omega (arith, ap (λ (r : Row). r.rest.value) row_cut, step.few.rest_value);
+                at = refl;
+              })
+
+        -- those that end are stored
+        pub walked-shut : (next : ℕ) (list : List ℕ) → Ok next ≡ stored count (is_number limit n) r limit → list ≡ sets row count (n ∷ r.second ∷ r.third ∷ [])
+            → Walked limit s (i + 1) list next (after r.rest)
+        walked-shut next list e l =
+            let q = then-passed (judged count (is_number limit n) r.second r.third limit) _ next (sym e) in
+            let t = check-passed TooManyCodewords (ltb max_count (count + r.count)) _ next q.2 in
+            rw (l, ← accepted-one t.1) (shut q.1 (ltb-false max_count (count + r.count) t.0))
+
+        -- or refused
+        pub walked-refused : (q : Refusal) → Err q ≡ stored count (is_number limit n) r limit → contents (fibonacci 3) limit s ≡ Err q
+        walked-refused q e = judged-by (judged count (is_number limit n) r.second r.third limit) refl (sym e)
+          where
+            judged-by : (j : Outcome (Unit {0})) → judged count (is_number limit n) r.second r.third limit ≡ j
+                → and_then j (λ x. check TooManyCodewords (ltb max_count (count + r.count)) (Ok (count + r.count))) ≡ Err q → contents (fibonacci 3) limit s ≡ Err q
+            judged-by (Err p) d e = rw (← refused-one e) (walked-fault p d)
+            judged-by (Ok x) d e =
+                elim (dec_le (count + r.count) max_count) [
+                  | yes l ↦ absurd (not-both (sym (rw (le-ltb max_count (count + r.count) l) at e)))
+                  | no l ↦
+                      let more : max_count < count + r.count = omega arith in
+                      let is : TooManyCodewords ≡ q = refused-one (rw (lt-ltb max_count (count + r.count) more) at e) in
+                      rw (← is) (walked-past d more)
+                ]
 
   -- the bytes are all read, and the pending bits are the rest
   module _ (h : length s ≤ i) where
     rest-is : parse 3 (unpack s) ≡ parsed k.words (k.body ++ ones k.run)
     rest-is = reached-end 3 (unpack s) (8 * i) k.words k.body k.run (omega (arith, unpack-length s)) k.reached
 
-    far : 8 ≤ len → 8 ≤ length k.body
-    far l = elim (dec_le 37 len) [ yes f ↦ omega (arith, k.pending.far f) | no f ↦ omega (arith, (k.pending.near (omega arith)).0) ]
+    far : 8 ≤ left.len → 8 ≤ length k.body
+    far l = elim (dec_le 37 left.len) [ yes f ↦ omega (arith, k.pending.far f) | no f ↦ omega (arith, (k.pending.near (omega arith)).0) ]
 
-    -- there are no ones exactly where the state is 0
-    state-none : is_padding len val state ≡ is_padding len val k.run
-    state-none = ap (λ (t : Bool). ltb len 8 && (eqb val 0 && t)) (state-zero k.run k.at)
+    near : left.len < 8 → (length k.body ≡ left.len) × (left.value ≡ value0 k.body)
+    near l = k.pending.near (omega arith)
 
-    pub walked-padding : is_padding len val state ≡ true → (contents (fibonacci 3) limit s ≡ accepted done) × (take count row ≡ done) × (length done ≡ count)
+    padding : is_padding left.len left.value left.rows ≡ is_padding left.len left.value k.run
+    padding = ap (λ (t : Bool). ltb left.len 8 && (eqb left.value 0 && t)) (rows-none k.run k.at)
+
+    pub walked-padding : is_padding left.len left.value left.rows ≡ true → Scanned (contents (fibonacci 3) limit s) (Ok count) row
     walked-padding e =
-        let t = padding-is 3 k.body len val k.run (omega arith) (λ l. k.pending.near (omega arith)) far (sym state-none ∙ e) in
-        (contents-good limit 3 s done k.legal k.words _ rest-is refl (omega (arith, done-long, k.most)) t.0 t.1, k.stored, done-long)
+        let t = padding-is 3 k.body left.len left.value k.run (omega arith) near far (sym padding ∙ e) in
+        rw (contents-good limit 3 s done k.legal k.words _ rest-is refl (omega (arith, done-long, k.most)) t.0 t.1)
+        (ap Ok (sym done-long), ap (λ (n : ℕ). take n row) done-long ∙ k.stored)
 
-    pub walked-rest : is_padding len val state ≡ false → contents (fibonacci 3) limit s ≡ refused BadRest
+    pub walked-rest : is_padding left.len left.value left.rows ≡ false → Scanned (contents (fibonacci 3) limit s) (Err BadRest) row
     walked-rest e =
-        contents-rest limit 3 s done k.legal k.words _ rest-is refl (omega (arith, done-long, k.most))
-        (padding-not 3 k.body len val k.run (omega arith) (λ l. k.pending.near (omega arith)) far (sym state-none ∙ e))
+        refuses _ _ row (contents-rest limit 3 s done k.legal k.words _ rest-is refl (omega (arith, done-long, k.most))
+        (padding-not 3 k.body left.len left.value k.run (omega arith) near far (sym padding ∙ e)))

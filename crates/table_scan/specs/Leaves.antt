@@ -1,38 +1,31 @@
--- What the scan by bytes is given, and what it leaves; the checks of the numbers that end in a byte.
-use Rattle.std.specs.Prelude.{◌≡◌, Bool, true, false, List, ℕ, zero, suc, ◌≤◌, ◌<◌, leb, length}
-use Rattle.fibonacci.specs.Leaves.{Firsts}
+-- What is pending after a byte; the checks of the numbers that end in it.
+use Rattle.std.specs.Prelude.{Bool, true, false, not, ℕ, ◌+◌, ◌*◌, leb, ltb, Ok}
 use Rattle.calls.specs.declared.Refusal.{Refusal}
 use Rattle.calls.specs.declared.Refusal.TheVariants.{TooManyCodewords, TooLarge}
-use Rattle.calls.specs.declared.CountAnswer.{CountAnswer}
-use Rattle.calls.specs.Calls.{Outcome}
-use Rattle.calls.specs.Limits.{max_number, max_count, max_bytes}
-use Rattle.byte_table.specs.Leaves.{head_words, tail_words, position_words}
-use Rattle.calls.specs.Leaves.{Scanned}
+use Rattle.calls.specs.Calls.{Outcome, check, and_then}
+use Rattle.calls.specs.Limits.{max_count}
+use Rattle.table_scan.specs.declared.Pending.{Pending}
+use Rattle.byte_table.specs.declared.Rest.{Rest}
+use Rattle.byte_table.specs.declared.Row.{Row}
 
--- The tables that are handed down
-pub record ByteTables (heads tails positions firsts : List ℕ) : Type 0 where
-  pub heads_are : heads ≡ head_words
-  pub tails_are : tails ≡ tail_words
-  pub positions_are : positions ≡ position_words
-  pub firsts_are : Firsts 3 firsts
-
--- What the scan is given: the tables, an encoding that is not too long, a limit, and a list with room for all that it may store
-abbrev pub ScanInput : List ℕ → List ℕ → List ℕ → List ℕ → List ℕ → ℕ → List ℕ → Type 0
-ScanInput heads tails positions firsts s limit list =
-    ByteTables heads tails positions firsts × (length s ≤ max_bytes) × (limit ≤ max_number) × (length list ≡ 4098)
-
--- What it leaves: its answer, its list, and that as long as it was
-abbrev pub ScanResult : Outcome (List ℕ) → CountAnswer → List ℕ → Type 0
-ScanResult found a list = Scanned found a list × (length list ≡ 4098)
-
--- So many of the numbers that a byte ends pass their check before the first that fails: by whether the first is legal, the limit, and the two after it. These
--- are 0 only where they are not there, so the limit alone decides
-abbrev pub Passes : Bool → ℕ → ℕ → ℕ → ℕ → Type 0
-Passes legal limit second third zero = legal ≡ false
-Passes legal limit second third (suc zero) = (legal ≡ true) × (limit < second)
-Passes legal limit second third (suc (suc zero)) = (legal ≡ true) × (second ≤ limit) × (limit < third)
-Passes legal limit second third (suc (suc (suc more))) = (legal ≡ true) × (second ≤ limit) × (third ≤ limit)
+-- What remains of a byte is pending then, and the rows for the next one begin at 256 for each one at its end
+abbrev pub after : Rest → Pending
+after r = record { len = r.len; value = r.value; rows = 256 * r.ones }
 
 -- Why a codeword is refused whose number fails its check, by its place
 abbrev pub fault_at : ℕ → Refusal
 fault_at place = elim (leb max_count place) [ true ↦ TooManyCodewords | false ↦ TooLarge place ]
+
+-- The numbers that a byte ends, from a place on: whether the first is legal, and the two after it, which are 0 only where they are not there, so that the limit
+-- alone decides
+abbrev pub judged : ℕ → Bool → ℕ → ℕ → ℕ → Outcome (Unit {0})
+judged place legal second third limit =
+    check (fault_at place) (not legal)
+    (check (fault_at (place + 1)) (ltb limit second)
+    (check (fault_at (place + 2)) (ltb limit third)
+    (Ok tt)))
+
+-- How many numbers there are once those of a row that was looked up are stored after `count` others: 4 they are too many
+abbrev pub stored : ℕ → Bool → Row → ℕ → Outcome ℕ
+stored count legal r limit =
+    and_then (judged count legal r.second r.third limit) (λ _. check TooManyCodewords (ltb max_count (count + r.count)) (Ok (count + r.count)))

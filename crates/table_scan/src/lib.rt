@@ -1,48 +1,41 @@
 // An encoding of order 3 scanned byte by byte, by a table of 768 rows.
 #![tactic(auto)]
 
-ghost use Rattle.std.specs.Prelude.{◌≡◌, ◌∷◌, [], ◌≤◌, ◌<◌, length};
+ghost use Rattle.std.specs.Prelude.{◌≡◌, ◌∷◌, [], ◌≤◌, ◌<◌, OnOk};
 ghost use Rattle.std.proofs.lemmas.List.Edits.{sets};
-ghost use Rattle.calls.specs.Limits.{is_number, max_number};
+ghost use Rattle.calls.specs.Limits.{is_number, max_count};
+ghost use Rattle.calls.specs.Leaves.{Scanned};
 ghost use Rattle.calls.specs.Reading.{contents};
 ghost use Rattle.reading.specs.Reading.{fibonacci};
-ghost use Rattle.table_scan.specs.Leaves.{ScanInput, ScanResult, Passes, fault_at};
+ghost use Rattle.table_scan.specs.Leaves.{after, judged, stored, fault_at};
 
-use calls::{CountAnswer, Refusal};
+use byte_table::Row;
+use calls::Refusal;
+use reading::Encoding;
 
-// The first number that a byte ends goes to place 4,095 at most, and two more may follow it.
-pub const ROOM: usize = 4098;
+// The first number that a byte ends goes to place 4,096 at most, where it is one too many, and two more may follow it.
+pub const ROOM: usize = 4099;
 
-// Three numbers from element i on. Requires: a place of a row, and a legal first number, which `walk` shows.
-fn put(row: &mut [u32; ROOM], i: usize, first: u64, second: u32, third: u32)
-    requires { (i < 4096) × (length row.old ≡ 4098) × (first ≤ max_number) }
-    ensures { row.new ≡ sets row.old i (first ∷ second ∷ third ∷ []) }
-{
-    row[i] = first as u32;
-    row[i + 1] = second;
-    row[i + 2] = third;
+// What is pending after a byte: `len` bits up to the last zero, or at least so many where `len` is 37, their value, and where the rows for the next byte begin:
+// 256 for each one after them. No codeword with 37 bits or more before its last ones has a legal number, so that it does not matter how many more they are.
+#[derive(Clone, Copy)]
+struct Pending {
+    len: usize,
+    value: u64,
+    rows: usize,
 }
 
-// A pending length up to 37. No codeword with 37 bits or more before its last ones has a legal number, so how many more they are does not matter.
-fn clamp_length(len: usize) -> usize
-    ensures { (len < 37 → result ≡ len) × (37 ≤ len → result ≡ 37) }
-{
-    if len < 37 { len } else { 37 }
-}
-
-// How many of the numbers that a byte ends pass their check before the first that fails; 3 where none fails. Those after the first are 15 at most, so that only
-// a small limit refuses them.
-fn passing(first: u64, second: u32, third: u32, limit: u64) -> usize
-    ensures { Passes (is_number limit first) limit second third result }
-{
-    if !calls::is_number(first, limit) {
-        0
-    } else if calls::wide(second) > limit {
-        1
-    } else if calls::wide(third) > limit {
-        2
-    } else {
-        3
+impl Pending {
+    // By how many ones come last. Requires: as few as remain of a byte, which `walk` shows.
+    fn new(len: usize, value: u64, ones: usize) -> Pending
+        requires { ones < 4 }
+        ensures { result ≡ after (record { len = len; value = value; ones = ones }) }
+    {
+        Pending {
+            len,
+            value,
+            rows: 256 * ones,
+        }
     }
 }
 
@@ -57,53 +50,76 @@ fn fault(place: usize) -> Refusal
     }
 }
 
-// The scan after the check of the length, byte by byte. Pending are `len` bits up to a zero, whose value is `val`, or at least so many where `len` is 37, and
-// then ones; `state` is 256 times their count, where the rows for the next byte begin. Requires: the tables, an encoding that is not too long, and a limit of
-// at most 4,294,967,295, which the table decoder takes, checks and shows.
-pub fn walk(
-    heads: &[u32; 768],
-    tails: &[u32; 768],
-    positions: &[u32; 40],
-    firsts: &[u32; 47],
-    s: &[u8],
-    limit: u64,
+// The check of the numbers that a byte ends, from a place on; the first at fault decides. Those after the first are 15 at most, so that only a small limit
+// refuses them.
+fn judge(place: usize, first: u64, second: u32, third: u32, limit: u32) -> Result<(), Refusal>
+    requires { place ≤ max_count }
+    ensures { result ≡ judged place (is_number limit first) second third limit }
+{
+    if !calls::is_number(first, limit) {
+        return Err(fault(place));
+    }
+    if second > limit {
+        return Err(fault(place + 1));
+    }
+    if third > limit {
+        return Err(fault(place + 2));
+    }
+    Ok(())
+}
+
+// Three numbers from element i on. Requires: a place of a row or the next one, which `store` requires.
+fn put(row: &mut [u32; ROOM], i: usize, first: u32, second: u32, third: u32)
+    requires { i ≤ max_count }
+    ensures { row.new ≡ sets row.old i (first ∷ second ∷ third ∷ []) }
+{
+    row[i..i + 3].copy_from_slice(&[first, second, third]);
+}
+
+// The numbers that a byte ends, checked, and stored from place `count` on: how many there are then. Requires: as many numbers as a row has at most, and as few
+// more as end in a byte, which `walk` shows.
+#[tactic(auto, using(crate::proofs::Refusing::judged_legal))]
+fn store(
     row: &mut [u32; ROOM],
-) -> CountAnswer
-    requires { ScanInput heads.now tails.now positions.now firsts.now s.now limit row.old }
-    ensures { ScanResult (contents (fibonacci 3) limit s.now) result row.new }
+    count: usize,
+    first: u64,
+    r: Row,
+    limit: u32,
+) -> Result<usize, Refusal>
+    requires { (count ≤ max_count) × (r.count ≤ 3) }
+    ensures answer { result ≡ stored count (is_number limit first) r limit }
+    ensures list { OnOk result (row.new ≡ sets row.old count (first ∷ r.second ∷ r.third ∷ [])) }
+{
+    judge(count, first, r.second, r.third, limit)?;
+    put(row, count, first as u32, r.second, r.third);
+    let next = count + r.count;
+    if next > calls::MAX_COUNT {
+        return Err(Refusal::TooManyCodewords);
+    }
+    Ok(next)
+}
+
+// The scan after the check of the length, byte by byte. Requires: order 3, which the table decoder hands over.
+pub fn walk(encoding: Encoding, row: &mut [u32; ROOM]) -> Result<usize, Refusal>
+    requires { encoding.order.m ≡ 3 }
+    ensures { Scanned (contents (fibonacci 3) encoding.entry.limit encoding.entry.bytes.now) result row.new }
 {
     let mut count: usize = 0;
-    let mut len: usize = 0;
-    let mut val: u64 = 0;
-    let mut state: usize = 0;
-    for i in 0..s.len() {
-        let r = byte_table::look_up(heads, tails, state + s[i] as usize);
-        let end = len + r.len;
-        let sum = val + byte_table::moved(positions, len, r.coef0, r.coef1, r.coef2);
-        state = 256 * r.rest.ones;
+    let mut pending = Pending::new(0, 0, 0);
+    for &byte in encoding.bytes {
+        let r = byte_table::look_up(pending.rows + usize::from(byte));
+        let len = pending.len + r.len;
+        let value = pending.value + r.moved(pending.len);
         if r.count == 0 {
-            len = clamp_length(end);
-            val = sum;
+            pending = Pending::new(len.min(37), value, r.rest.ones);
         } else {
-            if count == calls::MAX_COUNT {
-                return CountAnswer::Refused(Refusal::TooManyCodewords);
-            }
-            let n = reading::number(firsts, 3, end, sum);
-            let good = passing(n, r.second, r.third, limit);
-            if good < 3 {
-                return CountAnswer::Refused(fault(count + good));
-            }
-            put(row, count, n, r.second, r.third);
-            count += r.count;
-            if count > calls::MAX_COUNT {
-                return CountAnswer::Refused(Refusal::TooManyCodewords);
-            }
-            len = r.rest.len;
-            val = r.rest.value;
+            let first = reading::number(encoding.order, len, value);
+            count = store(row, count, first, r, encoding.limit)?;
+            pending = Pending::new(r.rest.len, r.rest.value, r.rest.ones);
         }
     }
-    if !reading::is_padding(len, val, state) {
-        return CountAnswer::Refused(Refusal::BadRest);
+    if !reading::is_padding(pending.len, pending.value, pending.rows) {
+        return Err(Refusal::BadRest);
     }
-    CountAnswer::Count(count)
+    Ok(count)
 }

@@ -8,13 +8,13 @@ use lib.ListN.{length}
 use lib.Seq.{slice, take_all}
 use Rattle.lists.specs.Lists.{sum}
 use Rattle.fibonacci.proofs.Sums.{slice-most}
-use Rattle.calls.specs.Calls.{accepted}
 use Rattle.calls.specs.Limits.{max_number, max_count}
 use Rattle.calls.specs.Reading.{decode}
 use Rattle.reading.specs.Reading.{fibonacci}
 use Rattle.reading.proofs.Decoding.{decode_is}
+use Rattle.std.specs.Prelude.{Ok}
 
-module _ (m : ℕ) (s row : List ℕ) (e : decode (fibonacci m) max_number s ≡ accepted row) where
+module _ (m : ℕ) (s row : List ℕ) (e : decode (fibonacci m) max_number s ≡ Ok row) where
   -- no sum is larger than 4,096 times the largest number: that of any span, and that of the row
   pub span_most : (a b : ℕ) → sum (slice a b row) ≤ max_number * max_count
   span_most a b =

@@ -2,60 +2,40 @@
 #![tactic(auto)]
 
 ghost use Rattle.std.specs.Prelude.{◌≡◌};
-ghost use Rattle.totals.specs.Totals.{total, repeated_total, total_outcome};
+ghost use Rattle.totals.specs.Totals.{total, repeated_total};
 
-#[derive(Clone, Copy)]
-pub enum TotalAnswer {
-    Sum(u64),
-    Refused(calls::Refusal),
-}
+use calls::Refusal;
+use fibonacci::Order;
 
 // The total of the numbers from place a up to but without place b.
-pub fn total(order: usize, s: &[u8], a: usize, b: usize) -> TotalAnswer
-    ensures { total_outcome result ≡ total order s.now a b }
+pub fn total(order: usize, s: &[u8], a: usize, b: usize) -> Result<u64, Refusal>
+    ensures { result ≡ total order s.now a b }
 {
-    if !calls::is_order(order) {
-        return TotalAnswer::Refused(calls::Refusal::BadOrder);
+    let order = Order::new(order)?;
+    let told = decoder::sum_span(order, s, calls::MAX_NUMBER, a, b)?;
+    if a > b {
+        return Err(Refusal::BadSpan);
     }
-    let told = decoder::sum_span(order, s, calls::MAX_NUMBER, a, b);
-    match told {
-        decoder::SpanAnswer::Row(f) => {
-            if a > b {
-                return TotalAnswer::Refused(calls::Refusal::BadSpan);
-            }
-            if b > f.count {
-                return TotalAnswer::Refused(calls::Refusal::BadSpan);
-            }
-            TotalAnswer::Sum(f.total)
-        }
-        decoder::SpanAnswer::Refused(r) => TotalAnswer::Refused(r),
+    if b > told.count {
+        return Err(Refusal::BadSpan);
     }
+    Ok(told.total)
 }
 
 // The total of the row repeated so many times, where what each repeat shares with the next counts once.
-pub fn repeated_total(order: usize, s: &[u8], repeats: u64, shared: u64) -> TotalAnswer
-    ensures { total_outcome result ≡ repeated_total order s.now repeats shared }
+pub fn repeated_total(order: usize, s: &[u8], repeats: u64, shared: u64) -> Result<u64, Refusal>
+    ensures { result ≡ repeated_total order s.now repeats shared }
 {
-    if !calls::is_order(order) {
-        return TotalAnswer::Refused(calls::Refusal::BadOrder);
+    let order = Order::new(order)?;
+    let told = decoder::sum_span(order, s, calls::MAX_NUMBER, 0, 0)?;
+    if repeats == 0 || repeats > 10000 {
+        return Err(Refusal::BadRepeats);
     }
-    let told = decoder::sum_span(order, s, calls::MAX_NUMBER, 0, 0);
-    match told {
-        decoder::SpanAnswer::Row(f) => {
-            if repeats == 0 {
-                return TotalAnswer::Refused(calls::Refusal::BadRepeats);
-            }
-            if repeats > 10000 {
-                return TotalAnswer::Refused(calls::Refusal::BadRepeats);
-            }
-            let once = f.all;
-            if shared > once {
-                return TotalAnswer::Refused(calls::Refusal::TooMuchShared);
-            }
-            // what a further repeat adds
-            let more = once - shared;
-            TotalAnswer::Sum(once + (repeats - 1) * more)
-        }
-        decoder::SpanAnswer::Refused(r) => TotalAnswer::Refused(r),
+    let once = told.all;
+    if shared > once {
+        return Err(Refusal::TooMuchShared);
     }
+    // what a further repeat adds
+    let more = once - shared;
+    Ok(once + (repeats - 1) * more)
 }

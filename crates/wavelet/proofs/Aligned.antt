@@ -18,24 +18,24 @@ use Rattle.wavelet.specs.Leaves.{Aligned}
 use Rattle.wavelet.proofs.Cursors.{shallow}
 
 -- how long the codewords of the alphabet are
-pub aligned-short : (m n k : ℕ) → Order m → 1 ≤ n → n ≤ max_alphabet → k ≡ length (codeword m n) → k ≤ 22
-aligned-short m n k o a b e =
+pub aligned_short : (m n : ℕ) → Order m → 1 ≤ n → n ≤ max_alphabet → length (codeword m n) ≤ 22
+aligned_short m n o a b =
     let d = size m n n 0 in
     let short : d ≤ 16 = shallow m d o (omega (arith, (codeword-size m n (omega arith) a).0)) in
     omega (arith, codeword-bits m n)
 
-module _ (m n k w : ℕ) (long : k ≤ 32) (bits : word_bits k w ≡ codeword m n) (small : w < 2 ^ k) where
+module _ (k w : ℕ) (long : k ≤ 32) (small : w < 2 ^ k) where
   -- the word, shifted to the top
   shifted : w * 2 ^ (32 - k) % 2 ^ 64 ≡ w * 2 ^ (32 - k)
   shifted = shl_exact k (32 - k) 64 small (omega arith)
 
-  pub aligned-fits : w * 2 ^ (32 - k) % 2 ^ 64 < 2 ^ 32
-  aligned-fits =
+  pub aligned_fits : w * 2 ^ (32 - k) % 2 ^ 64 < 2 ^ 32
+  aligned_fits =
       let e : k + (32 - k) ≡ 32 = omega arith in
       rw shifted (subst (λ (i : ℕ). w * 2 ^ (32 - k) < 2 ^ i) e (shl_lt k (32 - k) small))
 
-  pub aligned-is : Aligned m n (w * 2 ^ (32 - k) % 2 ^ 64)
-  aligned-is s h =
+  pub aligned_is : (m n : ℕ) → word_bits k w ≡ codeword m n → Aligned m n (w * 2 ^ (32 - k) % 2 ^ 64)
+  aligned_is m n bits s h =
       let e : k + (32 - k) ≡ 32 = omega arith in
       let x = w * 2 ^ (32 - k) in
       let all : word_bits 32 x ≡ codeword m n ++ replicate (32 - k) false =

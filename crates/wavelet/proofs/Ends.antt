@@ -1,25 +1,25 @@
 -- Where bitmaps end, step by step.
-use mathlib.Core.Path.{◌≡◌, sym, ap, ◌∙◌}
+use mathlib.Core.Path.{◌≡◌, refl, sym, ap, ◌∙◌}
 use mathlib.Core.Bool.{Bool, true, false}
 use mathlib.Core.List.{List}
-use Prim.Native.Nat.{ℕ, suc, ◌+◌, ◌-◌, ◌*◌, ◌/◌, ◌%◌, ◌≤◌, ◌<◌}
+use Prim.Native.Nat.{ℕ, ◌+◌, ◌-◌, ◌*◌, ◌/◌, ◌%◌, ◌≤◌, ◌<◌}
 use native.Mathlib.Omega.{arith}
 use lib.ListN.{length, take, drop, length-take, length-drop}
 use lib.Seq.{drop-drop}
+use Rattle.std.specs.Prelude.{Option, Some, None}
 use Rattle.lists.proofs.Lists.{take_inner}
 use Rattle.bits.specs.Bits.{unpack, count}
-use Rattle.bits.proofs.Count.{count-both}
+use Rattle.bits.proofs.Count.{count-le, count-both}
 use Rattle.bits.proofs.Bytes.{unpack-drop, unpack-take}
 use Rattle.wavelet.specs.Nodes.{Tree, leaf, node}
 use Rattle.wavelet.specs.Bitmaps.{need}
-use Rattle.wavelet.specs.Leaves.{ends}
+use Rattle.wavelet.specs.Leaves.{Place}
 use Rattle.wavelet.proofs.Trees.{need-none}
 
--- k bits from bit `at` on, in the bytes that hold them
-pub slice-bits : (s : List ℕ) (at k : ℕ)
-    → take k (drop (at % 8) (unpack (take ((at + k + 7) / 8 - at / 8) (drop (at / 8) s)))) ≡ take k (drop at (unpack s))
-slice-bits s at k =
-    let n = (at + k + 7) / 8 - at / 8 in
+-- k bits from bit `at` on, in bytes that hold them
+pub slice_bits : (s : List ℕ) (at k to : ℕ) → at + k ≤ 8 * to → take k (drop (at % 8) (unpack (take (to - at / 8) (drop (at / 8) s)))) ≡ take k (drop at (unpack s))
+slice_bits s at k to h =
+    let n = to - at / 8 in
     let b = unpack s in
     let whole : unpack (take n (drop (at / 8) s)) ≡ take (8 * n) (drop (8 * (at / 8)) b) =
     unpack-take (drop (at / 8) s) n ∙ ap (take (8 * n)) (unpack-drop s (at / 8)) in
@@ -28,44 +28,41 @@ slice-bits s at k =
     ∙ take_inner k (at % 8) (8 * n) (drop (8 * (at / 8)) b) (omega arith)
     ∙ ap (take k) (drop-drop (at % 8) (8 * (at / 8)) b ∙ ap (λ (i : ℕ). drop i b) there)
 
--- no numbers, or a leaf
-pub ends-none : (t : Tree) (b : List Bool) (at : ℕ) → at ≤ length b → at ≡ ends t 0 b at
-unfolding ends
-ends-none t b at h = omega (arith, need-none t (drop at b))
+-- no more of them are ones than there are
+pub ones_few : (k : ℕ) (b : List Bool) → count true (take k b) ≤ k
+ones_few k b = omega (arith, count-le true (take k b), length-take k b)
 
-pub ends-leaf : (n k : ℕ) (b : List Bool) (at : ℕ) → at ≤ length b → at ≡ ends (leaf n) k b at
-unfolding ends need
-ends-leaf n k b at h = omega arith
+-- no numbers, or a leaf
+pub ends-none : (t : Tree) (b : List Bool) (at total : ℕ) → at ≤ total → Place total (at + need t 0 b) (Some at)
+ends-none t b at total h = (omega (arith, need-none t b), omega (arith, need-none t b))
+
+pub ends-leaf : (n k : ℕ) (b : List Bool) (at total : ℕ) → at ≤ total → Place total (at + need (leaf n) k b) (Some at)
+unfolding need
+ends-leaf n k b at total h = (omega arith, omega arith)
 
 -- the zeros of a bitmap that has e ones
 pub zeros : (k : ℕ) (b : List Bool) (at e : ℕ) → at + k ≤ length b → e ≡ count true (take k (drop at b)) → k - e ≡ count false (take k (drop at b))
 zeros k b at e fits ones = omega (arith, count-both (take k (drop at b)), length-take k (drop at b), length-drop at b)
 
--- a node with such a bitmap
-module _ (p : List Bool) (z o : Tree) (k : ℕ) (b : List Bool) (at e : ℕ) where
-  pub ends-short : length b < at + k → suc (length b) ≡ ends (node p z o) k b at
-  unfolding ends need
-  ends-short h = omega arith
+-- a node's bitmap runs past the bits
+pub ends-short : (p : List Bool) (z o : Tree) (k : ℕ) (b : List Bool) (at total : ℕ) → total < at + k → Place total (at + need (node p z o) k b) None
+unfolding need
+ends-short p z o k b at total h = omega arith
 
-  module _ (fits : at + k ≤ length b) (ones : e ≡ count true (take k (drop at b))) where
-    pub need-node : need (node p z o) k (drop at b) ≡ k + (need z (k - e) (drop (at + k) b) + need o e (drop (need z (k - e) (drop (at + k) b)) (drop (at + k) b)))
-    unfolding need
-    need-node = rw (zeros k b at e fits ones, ones, ← drop-drop k at b)
+-- it is there, and has e ones
+module _ (p : List Bool) (z o : Tree) (k : ℕ) (b : List Bool) (at e : ℕ) (fits : at + k ≤ length b) (ones : e ≡ count true (take k (drop at b))) where
+  -- the bitmaps of the 0 side come after it, and those of the 1 side after them
+  pub need-node : (mid : ℕ) → mid ≡ at + k + need z (k - e) (drop (at + k) b) → at + need (node p z o) k (drop at b) ≡ mid + need o e (drop mid b)
+  unfolding need
+  need-node mid q =
+      let after : drop (need z (k - e) (drop (at + k) b)) (drop (at + k) b) ≡ drop mid b =
+      drop-drop (need z (k - e) (drop (at + k) b)) (at + k) b ∙ ap (λ (i : ℕ). drop i b) (sym q) in
+      rw (← zeros k b at e fits ones, ← ones, drop-drop k at b, after) (omega arith)
 
-    -- the 0 side runs past the bits
-    pub ends-cut : (mid : ℕ) → mid ≡ ends z (k - e) b (at + k) → length b < mid → mid ≡ ends (node p z o) k b at
-    unfolding ends
-    ends-cut mid q h = omega (arith, need-node)
+  -- those of the 0 side run past the bits, and so all do; or all end where those of the 1 side do
+  pub ends-cut : (total : ℕ) → Place total (at + k + need z (k - e) (drop (at + k) b)) None → Place total (at + need (node p z o) k (drop at b)) None
+  ends-cut total h = omega (arith, need-node _ refl)
 
-    -- or the 1 side starts where it ends
-    module _ (mid : ℕ) (q : mid ≡ ends z (k - e) b (at + k)) (h : mid ≤ length b) where
-      pub mid-is : mid ≡ at + k + need z (k - e) (drop (at + k) b)
-      unfolding ends
-      mid-is = omega arith
-
-      mid-drop : drop (need z (k - e) (drop (at + k) b)) (drop (at + k) b) ≡ drop mid b
-      mid-drop = drop-drop (need z (k - e) (drop (at + k) b)) (at + k) b ∙ ap (λ (i : ℕ). drop i b) (sym mid-is)
-
-      pub ends_on : ends o e b mid ≡ ends (node p z o) k b at
-      unfolding ends
-      ends_on = omega (arith, need-node, mid-is, ap (need o e) mid-drop)
+  pub ends_on : (total mid : ℕ) → Place total (at + k + need z (k - e) (drop (at + k) b)) (Some mid)
+      → (r : Option ℕ) → Place total (mid + need o e (drop mid b)) r → Place total (at + need (node p z o) k (drop at b)) r
+  ends_on total mid q r h = rw (need-node mid q.0) h

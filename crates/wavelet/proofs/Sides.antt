@@ -4,7 +4,7 @@ use mathlib.Core.Bool.{Bool, true, false}
 use mathlib.Core.List.{List, [], ◌∷◌, ◌++◌}
 use Prim.Native.Nat.{ℕ, ◌+◌, ◌-◌, ◌≤◌, ◌<◌}
 use native.Mathlib.Omega.{arith}
-use lib.ListN.{length, get_or, take, drop, length-drop}
+use lib.ListN.{length, get_or, take, drop}
 use lib.Seq.{take-take, drop-drop, get_or-take, get_or-drop}
 use Rattle.bits.specs.Bits.{bit_of, count, select_bit}
 use Rattle.bits.proofs.Count.{count-between}
@@ -12,7 +12,7 @@ use Rattle.fibonacci.specs.Code.{codeword}
 use Rattle.wavelet.specs.Nodes.{is_prefix, Tree, node, prune}
 use Rattle.wavelet.specs.Bitmaps.{need, row_of_bitmaps}
 use Rattle.wavelet.specs.Questions.{uses, rank_in}
-use Rattle.wavelet.specs.Leaves.{CursorAt, side, ends, visits_in, Aligned}
+use Rattle.wavelet.specs.Leaves.{CursorAt, side, visits_in, Aligned}
 use Rattle.wavelet.specs.declared.Cursor.{Cursor}
 use Rattle.wavelet.proofs.Strings.{begins-next}
 use Rattle.wavelet.proofs.Pruned.{cursor-longer}
@@ -88,11 +88,6 @@ pub aligned-side : {m N f : ℕ} {q : List Bool} {v : Cursor} → CursorAt m N f
 aligned-side {m} {q = q} {v} h low deep n x aligned some e a bit =
     begins-next q (codeword m n) a e (cursor-longer h low n some e) (
     ap (λ (i : ℕ). get_or (codeword m n) i false) h.long ∙ sym (aligned v.depth deep) ∙ bit)
-
--- the bitmaps below the node, all in the bits
-pub node-need : (t : Tree) (k : ℕ) (b : List Bool) (at r : ℕ) → r ≡ ends t k b at → r ≤ length b → need t k (drop at b) ≤ length (drop at b)
-unfolding ends
-node-need t k b at r e h = omega (arith, length-drop at b)
 
 pub node-under : {m N f : ℕ} {q : List Bool} {v : Cursor} (h : CursorAt m N f q v) (z o : Tree) → prune m N f q ≡ node q z o → Under m q (node q z o)
 node-under {m} {q = q} h z o e = subst (λ (t : Tree). Under m q t) e (cursor-under h)

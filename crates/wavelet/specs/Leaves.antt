@@ -1,10 +1,9 @@
 -- Where a walk down the tree stands, and what the functions that walk find there: for the contracts of those functions. No operation's promise cites it.
-use Rattle.std.specs.Prelude.{◌≡◌, Bool, true, false, ◌&&◌, List, ◌∷◌, ◌++◌, ℕ, suc, ◌+◌, ◌-◌, ◌*◌, ◌≤◌, ◌<◌, min, leb, ltb, length, get_or, drop}
+use Rattle.std.specs.Prelude.{◌≡◌, Bool, true, false, ◌&&◌, List, ◌∷◌, ◌++◌, ℕ, suc, ◌+◌, ◌-◌, ◌*◌, ◌≤◌, ◌<◌, leb, ltb, length, get_or, drop, Option, Some, MatchOption}
 use Rattle.lists.specs.Lists.{filter}
 use Rattle.bits.specs.Bits.{bit_of, unpack}
 use Rattle.calls.specs.Limits.{is_order, is_number, max_count}
 use Rattle.fibonacci.specs.Code.{F, ones, Codeword, number, codeword}
-use Rattle.fibonacci.specs.Leaves.{Positions}
 use Rattle.wavelet.specs.Nodes.{is_prefix, Tree, prune, nodes}
 use Rattle.wavelet.specs.Bitmaps.{need}
 use Rattle.wavelet.specs.Questions.{max_alphabet}
@@ -70,31 +69,23 @@ side_of m v true = record { depth = v.depth + 1; next = v.next + F m (v.depth + 
 
 -- ## Where bitmaps start and end
 
--- What a walk has shown where it looks at the bitmaps below a string of the tree, which start at bit `at`
-abbrev pub Ready : ℕ → ℕ → Cursor → List ℕ → List ℕ → ℕ → Type 0
-Ready m N v positions s at = Positions m positions × (N ≤ max_alphabet) × IsCursor m N v × (length s ≤ max_index_bytes) × (at ≤ 8 * length s)
+-- Where bits end, as a place among all the bits that there are; none where they run past these
+abbrev pub Place : ℕ → ℕ → Option ℕ → Type 0
+Place total end r = MatchOption r (total < end) (λ x. (x ≡ end) × (end ≤ total))
 
--- .. and where it goes on to a side: the string is a node whose own bitmap, of k bits of which e are ones, is in the bytes
-abbrev pub NodeReady : ℕ → ℕ → Cursor → ℕ → ℕ → List ℕ → List ℕ → ℕ → Type 0
-NodeReady m N v k e positions s at = Ready m N v positions s at × (node_test m N v ≡ true) × (at + k ≤ 8 * length s) × (e ≤ k)
-
--- Where the bitmaps of k numbers end that start at bit `at`; one more than there are bits where they run past them
-unfoldable pub ends : Tree → ℕ → List Bool → ℕ → ℕ
-ends t k b at = min (at + need t k (drop at b)) (suc (length b))
-
--- So below a string, in bytes
-abbrev pub Ends : ℕ → ℕ → Cursor → ℕ → List ℕ → ℕ → ℕ → Type 0
-Ends m N v k s at e = (f : ℕ) (q : List Bool) → CursorAt m N f q v → e ≡ ends (prune m N f q) k (unpack s) at
+-- Where the bitmaps of k numbers below a string end that start at bit `at`, if they do not run past the bytes
+abbrev pub Ends : ℕ → ℕ → Cursor → ℕ → List ℕ → ℕ → Option ℕ → Type 0
+Ends m N v k s at r = (f : ℕ) (q : List Bool) → CursorAt m N f q v → Place (8 * length s) (at + need (prune m N f q) k (drop at (unpack s))) r
 
 -- Where the bitmaps of a side of a node start: those of the 0 side after the node's own of k bits, of which e are ones; those of the 1 side where those of the 0 side end
-abbrev pub Starts : ℕ → ℕ → Cursor → ℕ → ℕ → List ℕ → ℕ → Bool → ℕ → Type 0
-Starts m N v k e s at false r = r ≡ at + k
+abbrev pub Starts : ℕ → ℕ → Cursor → ℕ → ℕ → List ℕ → ℕ → Bool → Option ℕ → Type 0
+Starts m N v k e s at false r = r ≡ Some (at + k)
 Starts m N v k e s at true r = Ends m N (side_of m v false) (k - e) s (at + k) r
 
 -- Where the bitmaps of a node end, once those of a side have ended at bit `at`
-abbrev pub Closes : ℕ → ℕ → Cursor → ℕ → List ℕ → ℕ → Bool → ℕ → Type 0
+abbrev pub Closes : ℕ → ℕ → Cursor → ℕ → List ℕ → ℕ → Bool → Option ℕ → Type 0
 Closes m N v e s at false r = Ends m N (side_of m v true) e s at r
-Closes m N v e s at true r = r ≡ at
+Closes m N v e s at true r = r ≡ Some at
 
 -- ## A number's codeword
 

@@ -1,9 +1,8 @@
 -- Building an index and asking it (paper 01, "When a call says no": Build index, the three questions). The checks stand in the paper's order.
-use Rattle.std.specs.Prelude.{◌≡◌, Bool, true, not, List, map, ℕ, ◌-◌, leb, ltb, eqb, length, get_or, take}
+use Rattle.std.specs.Prelude.{◌≡◌, Bool, true, not, List, map, ℕ, ◌-◌, leb, ltb, eqb, length, get_or, take, Ok}
 use Rattle.bits.specs.Bits.{count, select_bit}
 use Rattle.calls.specs.declared.Refusal.TheVariants.{BadOrder, TooManyNumbers, NoRoom, BadPlace, BadUse, BadAlphabet, OutsideAlphabet, NotAnIndex, TooFewUses}
-use Rattle.calls.specs.declared.CountAnswer.{CountAnswer}
-use Rattle.calls.specs.Calls.{Outcome, accepted, check, buffer, count_outcome}
+use Rattle.calls.specs.Calls.{Outcome, check, buffer}
 use Rattle.calls.specs.Limits.{is_order, is_number, is_outside, max_count, check_each}
 use Rattle.wavelet.specs.Nodes.{visits}
 use Rattle.wavelet.specs.Bitmaps.{bitmaps, index, is_index, row_of_index}
@@ -25,15 +24,15 @@ build m N row room =
     check_tree m N (length row)
     (check_each OutsideAlphabet N 0 row
     (check NoRoom (ltb room (length (index m N row)))
-    (accepted (length (bitmaps m N row)))))
+    (Ok (length (bitmaps m N row)))))
 
 -- The output after building
 unfoldable pub build_into : ℕ → ℕ → List ℕ → List ℕ → List ℕ
 build_into m N row before = buffer (build m N row (length before)) (index m N row) before
 
 -- What is promised of the answer, and of the output before and after
-abbrev pub BuildPromise : ℕ → ℕ → List ℕ → List ℕ → CountAnswer → List ℕ → Type 0
-BuildPromise m N row before a after = (count_outcome a ≡ build m N row (length before)) × (after ≡ build_into m N row before)
+abbrev pub BuildPromise : ℕ → ℕ → List ℕ → List ℕ → Outcome ℕ → List ℕ → Type 0
+BuildPromise m N row before a after = (a ≡ build m N row (length before)) × (after ≡ build_into m N row before)
 
 -- ## What a row itself answers
 
@@ -59,7 +58,7 @@ unfoldable pub extract : ℕ → ℕ → ℕ → List ℕ → ℕ → Outcome (�
 extract m N k s i =
     ask m N k s
     (check BadPlace (leb k i)
-    (accepted (get_or (row_of_index m N k s) i 0, visits m N (get_or (row_of_index m N k s) i 0))))
+    (Ok (get_or (row_of_index m N k s) i 0, visits m N (get_or (row_of_index m N k s) i 0))))
 
 -- Rank of n among the first i places: 10 the number is 0 or above the alphabet; 8 i above the length
 unfoldable pub rank : ℕ → ℕ → ℕ → List ℕ → ℕ → ℕ → Outcome (ℕ × ℕ)
@@ -67,7 +66,7 @@ rank m N k s n i =
     ask m N k s
     (check (OutsideAlphabet 0) (is_outside N n)
     (check BadPlace (ltb k i)
-    (accepted (rank_in (row_of_index m N k s) n i, visits m N n))))
+    (Ok (rank_in (row_of_index m N k s) n i, visits m N n))))
 
 -- Select the j-th use of n: 10; 8 j is 0; 12 fewer than j uses
 unfoldable pub select : ℕ → ℕ → ℕ → List ℕ → ℕ → ℕ → Outcome (ℕ × ℕ)
@@ -76,4 +75,4 @@ select m N k s n j =
     (check (OutsideAlphabet 0) (is_outside N n)
     (check BadUse (eqb j 0)
     (check TooFewUses (ltb (rank_in (row_of_index m N k s) n k) j)
-    (accepted (select_in (row_of_index m N k s) n j, visits m N n)))))
+    (Ok (select_in (row_of_index m N k s) n j, visits m N n)))))

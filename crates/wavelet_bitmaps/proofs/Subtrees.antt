@@ -5,7 +5,7 @@ use mathlib.Core.List.{List, [], ◌∷◌, ◌++◌, map, flatten, append_assoc
 use Prim.Native.Nat.{ℕ, suc, ◌+◌, ◌-◌, ◌*◌, ◌≤◌, ◌<◌}
 use native.Mathlib.Omega.{arith}
 use native.Mathlib.Nat.{add-zero, zero-add, suc-mul, mul-add}
-use lib.ListN.{length, get_or, take, drop, length-map, length-append, length-take, length-drop}
+use lib.ListN.{length, get_or, take, drop, length-map, length-append}
 use lib.Seq.{sets, take_at, drop_at}
 use Rattle.lists.proofs.Each.{all_map}
 use Rattle.lists.specs.Lists.{All, filter}
@@ -14,28 +14,21 @@ use Rattle.lists.proofs.Lists.{sets-append}
 use Rattle.bits.specs.Bits.{unpack, count}
 use Rattle.bits.proofs.Count.{count-le}
 use Rattle.codes.specs.Rows.{Positive}
-use Rattle.fibonacci.specs.Code.{first, codeword}
-use Rattle.calls.specs.Limits.{Order}
+use Rattle.fibonacci.specs.Code.{codeword}
 use Rattle.wavelet.specs.Nodes.{is_prefix, Tree, prune, tree, nodes}
 use Rattle.wavelet.specs.Bitmaps.{bitmap, joined, bitmaps}
-use Rattle.wavelet.specs.Questions.{max_alphabet}
-use Rattle.wavelet.specs.Leaves.{Passed, CursorAt, IsCursor, Aligned, side_of, Root, node_test}
+use Rattle.wavelet.specs.Leaves.{CursorAt, Aligned, side_of, Root, node_test}
 use Rattle.wavelet.specs.declared.Cursor.{Cursor}
+use Rattle.wavelet.specs.declared.Tree as wavelet
 use Rattle.wavelet.proofs.Strings.{begins-front}
-use Rattle.wavelet.proofs.Pruned.{cursor-node, cursor-longer}
-use Rattle.wavelet.proofs.Cursors.{shallow}
-use Rattle.wavelet.proofs.Walking.{is-node, is_leaf}
+use Rattle.wavelet.proofs.Pruned.{cursor-longer}
+use Rattle.wavelet.proofs.Walking.{is-node, at-root, at-node, node-shallow, is_leaf}
 use Rattle.wavelet.proofs.Nodes.{cursor-under}
 use Rattle.wavelet.proofs.Rows.{at, at_all, Sided, sided-longer, joined-node, joined-none}
-use Rattle.wavelet.proofs.Answering.{at-root}
 use Rattle.wavelet_bitmaps.specs.Leaves.{AllAligned, bit_after, partitioned, room, HasWords, WritesSubtree, HasRow, WritesBitmaps}
 use Rattle.bits.proofs.Count.{filter-count}
 
 -- ## The room that bitmaps take
-
--- a node has fewer than 16 bits
-pub node-depth : (m s w : ℕ) → Order m → first m (s + 1) ≤ w → w ≤ max_alphabet → s < 16
-node-depth m s w o low h = omega (arith, shallow m (s + 1) o (omega arith))
 
 -- a node's bitmap, and what is left for its sides
 pub room_split : (s n z o : ℕ) → s < 16 → z + o ≡ n → room s n ≡ n + (room (s + 1) z + room (s + 1) o)
@@ -44,11 +37,13 @@ room_split s n z o h e =
     let d : 16 - s ≡ suc k = omega arith in
     ap (λ (x : ℕ). x * n) d ∙ suc-mul k n ∙ ap (λ (x : ℕ). k * x + n) (sym e) ∙ omega (arith, mul-add k z o)
 
--- so for partitioned words
-pub room-sides : (s n z : ℕ) (l : List ℕ) {uz uo : ℕ} → s < 16 → length l ≡ n → uz ≡ s + 1 → uo ≡ s + 1
-    → room s n ≡ n + (room uz (length (take z l)) + room uo (length (drop z l)))
-room-sides s n z l h e zero_is one-is =
-    rw (zero_is, one-is) (room_split s n (length (take z l)) (length (drop z l)) h (omega (arith, length-take z l, length-drop z l)))
+pub room_own : (s n : ℕ) → s < 16 → n ≤ room s n
+room_own s n h = omega (arith, room_split s n n 0 h (omega arith))
+
+-- so for words that are split
+pub room-sides : (m n : ℕ) (v x y : Cursor) (z o : ℕ) → x ≡ side_of m v false → y ≡ side_of m v true → v.depth < 16 → z + o ≡ n
+    → room v.depth n ≡ n + (room x.depth z + room y.depth o)
+room-sides m n v x y z o zero one h e = rw (zero, one) (room_split v.depth n z o h e)
 
 -- a side is one bit deeper
 pub side-depth : (m : ℕ) (v u : Cursor) (one : Bool) → u ≡ side_of m v one → u.depth ≡ v.depth + 1
@@ -82,10 +77,6 @@ aligned-none m [] xs e p = refl
 aligned-none m (n ∷ l) [] e p = absurd p
 aligned-none m (n ∷ l) (x ∷ xs) e p = absurd (omega arith)
 
--- the string that they are below
-pub words-cursor : (m N : ℕ) (v : Cursor) (xs : List ℕ) → HasWords m N v xs → IsCursor m N v
-words-cursor m N v xs (f, q, row, (h, pos, p)) = (f, q, h)
-
 -- ## No words, and a leaf
 
 module _ (m N : ℕ) (v : Cursor) (xs : List ℕ) (at : ℕ) (b : List ℕ) where
@@ -115,11 +106,15 @@ module _ (s : ℕ) (xs : List ℕ) (z : ℕ) (e : z ≡ count false (map (bit_af
   pub partitioned-few : z ≤ length xs
   partitioned-few = omega (arith, e, count-le false (map (bit_after s) xs), length-map xs (bit_after s))
 
-  pub partitioned-zeros : take z (partitioned s xs) ≡ filter (λ x. not (bit_after s x)) xs
-  partitioned-zeros = take_at (filter (λ x. not (bit_after s x)) xs) (filter (bit_after s) xs) z zeros-long
+  pub partitioned-zeros : (ys : List ℕ) → ys ≡ partitioned s xs → take z ys ≡ filter (λ x. not (bit_after s x)) xs
+  partitioned-zeros ys d = ap (take z) d ∙ take_at (filter (λ x. not (bit_after s x)) xs) (filter (bit_after s) xs) z zeros-long
 
-  pub partitioned-ones : drop z (partitioned s xs) ≡ filter (bit_after s) xs
-  partitioned-ones = drop_at (filter (λ x. not (bit_after s x)) xs) (filter (bit_after s) xs) z zeros-long
+  pub partitioned-ones : (ys : List ℕ) → ys ≡ partitioned s xs → drop z ys ≡ filter (bit_after s) xs
+  partitioned-ones ys d = ap (drop z) d ∙ drop_at (filter (λ x. not (bit_after s x)) xs) (filter (bit_after s) xs) z zeros-long
+
+-- such a node has fewer than 16 bits
+pub words-short : (t : wavelet.Tree) (v : Cursor) (xs : List ℕ) → HasWords t.order.m t.limit v xs → node_test t.order.m t.limit v ≡ true → v.depth < 16
+words-short t v xs (f, q, row, (h, pos, p)) test = node-shallow t.order.m t.limit v t.order.in_use t.small.1 (f, q, h) test
 
 module _ (m N : ℕ) (v : Cursor) (xs : List ℕ) (test : node_test m N v ≡ true) (short : v.depth < 16) where
   module _ (f : ℕ) (q : List Bool) (row : List ℕ) (pos : Positive row) (h : CursorAt m N f q v) (p : AllAligned m (filter (λ n. is_prefix q (codeword m n)) row) xs) where
@@ -156,12 +151,12 @@ module _ (m N : ℕ) (v : Cursor) (xs : List ℕ) (test : node_test m N v ≡ tr
   -- so there are such words on each side
   pub words-zero : HasWords m N v xs → {u : Cursor} {ys : List ℕ} → u ≡ side_of m v false → ys ≡ filter (λ x. not (bit_after v.depth x)) xs → HasWords m N u ys
   words-zero (f, q, row, (h, pos, p)) is_zero zs =
-      let k = cursor-node h (is-node m N v test).0 (is-node m N v test).1 in
+      let k = at-node h test in
       (k.g, q ++ (false ∷ []), row, (rw is_zero k.zero_side, pos, rw zs (zero-aligned f q row pos h p)))
 
   pub words-one : HasWords m N v xs → {u : Cursor} {ys : List ℕ} → u ≡ side_of m v true → ys ≡ filter (bit_after v.depth) xs → HasWords m N u ys
   words-one (f, q, row, (h, pos, p)) is_one os =
-      let k = cursor-node h (is-node m N v test).0 (is-node m N v test).1 in
+      let k = at-node h test in
       (k.g, q ++ (true ∷ []), row, (rw is_one k.one_side, pos, rw os (one-aligned f q row pos h p)))
 
   -- its bitmap from bit `at` on, then what its sides write
@@ -172,7 +167,7 @@ module _ (m N : ℕ) (v : Cursor) (xs : List ℕ) (test : node_test m N v ≡ tr
       (sz : WritesSubtree m N uz xz (at + length xs) b1 mid b2) (so : WritesSubtree m N uo xo mid b2 end b3) where
     pub subtree-node : WritesSubtree m N v xs at b0 end b3
     subtree-node f q row (h, pos, p) =
-        let k = cursor-node h (is-node m N v test).0 (is-node m N v test).1 in
+        let k = at-node h test in
         let tz : Tree = prune m N k.g (q ++ (false ∷ [])) in
         let to : Tree = prune m N k.g (q ++ (true ∷ [])) in
         let jb : List Bool = bitmap m row q in
@@ -198,15 +193,14 @@ module _ (m N : ℕ) (v : Cursor) (xs : List ℕ) (test : node_test m N v ≡ tr
 pub root-room : (v : Cursor) (k : ℕ) → Root v → room v.depth k ≡ 16 * k
 root-room v k r = ap (λ (s : ℕ). room s k) r.0
 
--- the words of a whole row are below its root
-pub root-words : {m N k : ℕ} → Passed m N k → {v : Cursor} → Root v → (xs : List ℕ) → HasRow m xs → {l : ℕ} → l ≡ N → HasWords m l v xs
-root-words {m} {N} p r xs (row, pos, d) same = rw same (m + N, [], row, (at-root p r, pos, rw (at_all m row) d))
+module _ (m N : ℕ) (p : 1 ≤ m) (h : 1 ≤ N) (v : Cursor) (r : Root v) where
+  -- the words of a whole row are below its root
+  pub root-words : (xs : List ℕ) → HasRow m xs → HasWords m N v xs
+  root-words xs (row, pos, d) = (m + N, [], row, (at-root m N p h r, pos, rw (at_all m row) d))
 
--- what is written below its root
-pub root-written : {m N k : ℕ} → Passed m N k → {v : Cursor} → Root v
-    → (limit : ℕ) (xs before : List ℕ) (bits : ℕ) (after : List ℕ) → limit ≡ N → WritesSubtree m limit v xs 0 before bits after → WritesBitmaps m N xs before bits after
-unfolding bitmaps tree
-root-written {m} {N} p {v} r limit xs before bits after e s row pos d =
-    let t : WritesSubtree m N v xs 0 before bits after = subst (λ (n : ℕ). WritesSubtree m n v xs 0 before bits after) e s in
-    let x = t (m + N) [] row (at-root p r, pos, rw (at_all m row) d) in
-    (x.0 ∙ zero-add _, x.1)
+  -- what is written below its root
+  pub root-written : (xs before : List ℕ) (bits : ℕ) (after : List ℕ) → WritesSubtree m N v xs 0 before bits after → WritesBitmaps m N xs before bits after
+  unfolding bitmaps tree
+  root-written xs before bits after t row pos d =
+      let x = t (m + N) [] row (at-root m N p h r, pos, rw (at_all m row) d) in
+      (x.0 ∙ zero-add _, x.1)

@@ -1,15 +1,13 @@
 -- What the functions that write the bitmaps of a row promise.
-use Rattle.std.specs.Prelude.{◌≡◌, Bool, false, not, List, [], ◌∷◌, ◌++◌, map, ℕ, ◌+◌, ◌-◌, ◌*◌, ◌^◌, ◌≤◌, ◌<◌, length}
+use Rattle.std.specs.Prelude.{◌≡◌, Bool, not, List, [], ◌∷◌, ◌++◌, ℕ, ◌+◌, ◌-◌, ◌*◌, length}
 use Rattle.std.proofs.lemmas.List.Edits.{sets}
 use Rattle.lists.specs.Lists.{filter}
-use Rattle.bits.specs.Bits.{bit_of, unpack, count}
+use Rattle.bits.specs.Bits.{bit_of, unpack}
 use Rattle.codes.specs.Rows.{Positive}
 use Rattle.fibonacci.specs.Code.{codeword}
-use Rattle.fibonacci.specs.Leaves.{Positions}
 use Rattle.wavelet.specs.Nodes.{is_prefix, prune}
 use Rattle.wavelet.specs.Bitmaps.{joined, bitmaps}
-use Rattle.wavelet.specs.Questions.{max_alphabet}
-use Rattle.wavelet.specs.Leaves.{Passed, CursorAt, Aligned, max_index_bytes}
+use Rattle.wavelet.specs.Leaves.{CursorAt, Aligned}
 use Rattle.wavelet.specs.declared.Cursor.{Cursor}
 
 -- Words that have the codewords of a row's numbers, one for each
@@ -27,17 +25,6 @@ bit_after s x = bit_of x (31 - s)
 abbrev pub partitioned : ℕ → List ℕ → List ℕ
 partitioned s xs = filter (λ x. not (bit_after s x)) xs ++ filter (bit_after s) xs
 
--- What partitioning asks: fewer than 32 bits before, as many words to spare, and room for the bitmap from bit `at` on
-abbrev pub PartitionReady : ℕ → List ℕ → List ℕ → List ℕ → ℕ → Type 0
-PartitionReady s words spare out at = (s < 32) × (length words ≤ length spare) × (at + length words ≤ 8 * length out) × (8 * length out < 2 ^ 64)
-
--- What it promises: how many have a 0, the words partitioned, and their bits in the output
-abbrev pub Partitions : ℕ → List ℕ → ℕ → List ℕ → ℕ → List ℕ → List ℕ → Type 0
-Partitions s words zeros words' at before after =
-    (zeros ≡ count false (map (bit_after s) words))
-    × (words' ≡ partitioned s words)
-    × (unpack after ≡ sets (unpack before) at (map (bit_after s) words))
-
 -- How many bits the bitmaps of k numbers take at most below a string of s bits
 abbrev pub room : ℕ → ℕ → ℕ
 room s k = (16 - s) * k
@@ -50,33 +37,15 @@ WordsAt m N f q v row xs = CursorAt m N f q v × Positive row × AllAligned m (f
 abbrev pub HasWords : ℕ → ℕ → Cursor → List ℕ → Type 0
 HasWords m N v xs = (f : ℕ) × (q : List Bool) × (row : List ℕ) × WordsAt m N f q v row xs
 
--- What writing below a string needs: such words, as much room for words to spare, and room for the bitmaps from bit `at` on
-abbrev pub SubtreeReady : ℕ → ℕ → Cursor → List ℕ → List ℕ → List ℕ → List ℕ → ℕ → Type 0
-SubtreeReady m N v positions words spare out at =
-    Positions m positions
-    × (N ≤ max_alphabet)
-    × HasWords m N v words
-    × (length words ≤ length spare)
-    × (at + room v.depth (length words) ≤ 8 * length out)
-    × (length out ≤ max_index_bytes)
-
 -- What writing words below a string writes from bit `at` on, up to bit `end`: the bitmaps there of any row whose numbers below the string the words are
 abbrev pub WritesSubtree : ℕ → ℕ → Cursor → List ℕ → ℕ → List ℕ → ℕ → List ℕ → Type 0
 WritesSubtree m N v xs at before end after =
     (f : ℕ) (q : List Bool) (row : List ℕ) → WordsAt m N f q v row xs
     → (end ≡ at + length (joined m (prune m N f q) row)) × (unpack after ≡ sets (unpack before) at (joined m (prune m N f q) row))
 
--- What writing below a string promises: that, in no more than the room for it
-abbrev pub SubtreePromise : ℕ → ℕ → Cursor → List ℕ → ℕ → List ℕ → ℕ → List ℕ → Type 0
-SubtreePromise m N v xs at before end after = (end ≤ at + room v.depth (length xs)) × WritesSubtree m N v xs at before end after
-
 -- The words have the codewords of the numbers of some row
 abbrev pub HasRow : ℕ → List ℕ → Type 0
 HasRow m xs = (row : List ℕ) × Positive row × AllAligned m row xs
-
--- What writing the bitmaps of a row asks
-abbrev pub BitmapsReady : ℕ → ℕ → List ℕ → List ℕ → List ℕ → Type 0
-BitmapsReady m N positions words out = Positions m positions × Passed m N (length words) × (length out ≡ max_index_bytes) × HasRow m words
 
 -- So from the front, for the whole tree: the bitmaps of any row whose numbers the words are, so many bits
 abbrev pub WritesBitmaps : ℕ → ℕ → List ℕ → List ℕ → ℕ → List ℕ → Type 0

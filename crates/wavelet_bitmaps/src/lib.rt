@@ -1,17 +1,27 @@
 // Writing the bitmaps of a row: those below a string of the tree, a node first, then its 0 side, then its 1 side.
 #![tactic(auto)]
 
-ghost use Rattle.std.specs.Prelude.{◌*◌, ◌≤◌};
+ghost use Rattle.std.specs.Prelude.{◌≡◌, false, map, ◌+◌, ◌*◌, ◌^◌, ◌≤◌, ◌<◌, length};
+ghost use Rattle.std.proofs.lemmas.List.Edits.{sets};
+ghost use Rattle.bits.specs.Bits.{unpack, count};
+ghost use Rattle.calls.specs.Limits.{max_count};
 ghost use Rattle.wavelet.specs.Leaves.{max_index_bytes};
-ghost use Rattle.wavelet_bitmaps.specs.Leaves.{PartitionReady, Partitions, SubtreeReady, SubtreePromise, BitmapsReady, WritesBitmaps};
+ghost use Rattle.wavelet_bitmaps.specs.Leaves.{bit_after, partitioned, room, HasWords, WritesSubtree, HasRow, WritesBitmaps};
+
+use wavelet::{Cursor, Tree};
 
 // A node: writes the next bits of the words' codewords as its bitmap from bit `at` on, and partitions the words by them, those with a 0 first; the result is
 // how many those are. The others go by way of `spare`. No branch goes by a bit, which a processor cannot foretell: each word is stored on both sides, and
 // its bit says on which it stays.
 // Requires: fewer than 32 bits before, as many words to spare, and room for the bitmap, all of which `write_subtree` shows of a node.
 fn partition(words: &mut [u32], spare: &mut [u32], depth: usize, out: &mut [u8], at: usize) -> usize
-    requires { PartitionReady depth words.old spare.old out.old at }
-    ensures { Partitions depth words.old result words.new at out.old out.new }
+    requires short { depth < 32 }
+    requires spare { length words.old ≤ length spare.old }
+    requires room { at + length words.old ≤ 8 * length out.old }
+    requires fits { 8 * length out.old < 2 ^ 64 }
+    ensures zeros { result ≡ count false (map (bit_after depth) words.old) }
+    ensures words { words.new ≡ partitioned depth words.old }
+    ensures bits { unpack out.new ≡ sets (unpack out.old) at (map (bit_after depth) words.old) }
 {
     let mut ones: usize = 0;
     for i in 0..words.len() {
@@ -20,84 +30,57 @@ fn partition(words: &mut [u32], spare: &mut [u32], depth: usize, out: &mut [u8],
         bits::set_bit(out, at + i, one);
         spare[ones] = x;
         words[i - ones] = x;
-        ones += one as usize;
+        ones += usize::from(one);
     }
     let zeros = words.len() - ones;
-    lists::copy(&mut words[zeros..], spare, ones);
+    words[zeros..].copy_from_slice(&spare[..ones]);
     zeros
 }
 
 // Writes the bitmaps below a string, from bit `at` on, of the numbers whose codewords the words have; the result is where they end. At a node the words
 // are partitioned in place, so each side has its own range of them, in the row's order.
-// Requires: a legal order and alphabet, the codewords of some row's numbers below a string of the tree, as many words to spare, and room for the bitmaps,
-// all of which `write_bitmaps` shows of the root and a node shows of its sides.
+// Requires: the codewords of some row's numbers below a string of the tree, as many words to spare, and room for the bitmaps, all of which `write_bitmaps`
+// shows of the root and a node shows of its sides.
 fn write_subtree(
-    positions: &[u32; 47],
-    order: usize,
-    limit: u64,
-    v: wavelet::Cursor,
+    tree: Tree,
+    v: Cursor,
     words: &mut [u32],
     spare: &mut [u32],
     out: &mut [u8],
     at: usize,
 ) -> usize
-    requires { SubtreeReady order limit v positions.now words.old spare.old out.old at }
-    ensures { SubtreePromise order limit v words.old at out.old result out.new }
+    requires words { HasWords tree.order.m tree.limit v words.old }
+    requires spare { length words.old ≤ length spare.old }
+    requires room { at + room v.depth (length words.old) ≤ 8 * length out.old }
+    requires bytes { length out.old ≤ max_index_bytes }
+    ensures within { result ≤ at + room v.depth (length words.old) }
+    ensures written { WritesSubtree tree.order.m tree.limit v words.old at out.old result out.new }
 {
     let n = words.len();
-    if n == 0 {
-        return at;
-    }
-    if !wavelet::is_node(order, limit, v) {
+    if n == 0 || !tree.is_node(v) {
         return at;
     }
     let zeros = partition(words, spare, v.depth, out, at);
-    let zero = wavelet::side(positions, order, v, false);
-    let mid = write_subtree(
-        positions,
-        order,
-        limit,
-        zero,
-        &mut words[..zeros],
-        spare,
-        out,
-        at + n,
-    );
-    let one = wavelet::side(positions, order, v, true);
-    write_subtree(
-        positions,
-        order,
-        limit,
-        one,
-        &mut words[zeros..],
-        spare,
-        out,
-        mid,
-    )
+    let (zero_words, one_words) = words.split_at_mut(zeros);
+    let zero = tree.side(v, false);
+    let mid = write_subtree(tree, zero, zero_words, spare, out, at + n);
+    let one = tree.side(v, true);
+    write_subtree(tree, one, one_words, spare, out, mid)
 }
 
-// Writes the bitmaps of a row from the front of a buffer; the words have the codewords of its numbers. The result is how many bits they have.
-// Requires: a legal order, alphabet and length, the position values of the order, and the codewords of a row, all of which building checks or makes.
+// Writes the bitmaps of a row from the front of a buffer that has room for every index; the words have the codewords of its numbers. The result is how many
+// bits they have.
+// Requires: the codewords of a row that is not too long, which building checks and makes.
 pub fn write_bitmaps(
-    positions: &[u32; 47],
-    order: usize,
-    alphabet: u32,
+    tree: Tree,
     words: &mut [u32],
-    out: &mut [u8],
+    out: &mut [u8; wavelet::MAX_INDEX_BYTES],
 ) -> usize
-    requires { BitmapsReady order alphabet positions.now words.old out.old }
-    ensures { (result ≤ 8 * max_index_bytes) × WritesBitmaps order alphabet words.old out.old result out.new }
+    requires count { length words.old ≤ max_count }
+    requires row { HasRow tree.order.m words.old }
+    ensures within { result ≤ 8 * max_index_bytes }
+    ensures written { WritesBitmaps tree.order.m tree.limit words.old out.old result out.new }
 {
-    let limit = calls::wide(alphabet);
-    let mut spare: [u32; calls::MAX_COUNT] = [0; calls::MAX_COUNT];
-    write_subtree(
-        positions,
-        order,
-        limit,
-        wavelet::root(),
-        words,
-        &mut spare,
-        out,
-        0,
-    )
+    let mut spare = [0; calls::MAX_COUNT];
+    write_subtree(tree, Cursor::root(), words, &mut spare, out, 0)
 }

@@ -16,12 +16,13 @@ use Rattle.bits.proofs.Packing.{pack-length, pack-bytes, unpack-pack, unpack-apa
 use Rattle.calls.proofs.Checks.{each-passed, each-refused}
 use Rattle.calls.specs.declared.Refusal.{Refusal}
 use Rattle.calls.specs.declared.Refusal.TheVariants.{NoRoom, OutsideAlphabet}
-use Rattle.calls.specs.Calls.{Outcome, accepted, refused, check, buffer}
+use Rattle.calls.specs.Calls.{Outcome, check, buffer}
 use Rattle.calls.specs.Limits.{Legal, check_each}
 use Rattle.wavelet.specs.Bitmaps.{bitmaps, index}
 use Rattle.wavelet.specs.Questions.{check_tree, build, build_into}
 use Rattle.wavelet.specs.Leaves.{Passed}
 use Rattle.wavelet.proofs.Answering.{tree-legal, tree-refused}
+use Rattle.std.specs.Prelude.{Ok, Err}
 
 -- ## The bytes that were written
 
@@ -85,15 +86,15 @@ module _ (m N : ℕ) (row before : List ℕ) where
   answer outcome e = (sym e, ap (λ (o : Outcome ℕ). buffer o (index m N row) before) (sym e))
 
   -- the order, the alphabet or the length
-  pub build-refused : (r : Refusal) → refused r ≡ check_tree m N (length row) (accepted N) → Built m N row before before (refused r)
+  pub build-refused : (r : Refusal) → check_tree m N (length row) (Ok N) ≡ Err r → Built m N row before before (Err r)
   unfolding build
-  build-refused r e = answer (refused r) (sym (tree-refused m N (length row) e _))
+  build-refused r e = answer (Err r) (tree-refused m N (length row) e _)
 
   module _ (p : Passed m N (length row)) where
     -- a number
-    pub build-number : (r : Refusal) → refused r ≡ check_each OutsideAlphabet N 0 row (accepted (length row)) → Built m N row before before (refused r)
+    pub build-number : (r : Refusal) → Err r ≡ check_each OutsideAlphabet N 0 row (Ok (length row)) → Built m N row before before (Err r)
     unfolding build
-    build-number r e = answer (refused r) (tree-legal m N (length row) p _ ∙ each-refused OutsideAlphabet N 0 row (length row) r _ (sym e))
+    build-number r e = answer (Err r) (tree-legal m N (length row) p _ ∙ each-refused OutsideAlphabet N 0 row (length row) r _ (sym e))
 
     module _ (numbers : Legal N row) (bits : ℕ) (long : bits ≡ length (bitmaps m N row)) where
       bytes : length (index m N row) ≡ byte_count bits
@@ -101,21 +102,21 @@ module _ (m N : ℕ) (row before : List ℕ) where
       bytes = rw (pack-length (bitmaps m N row), long)
 
       -- what comes after the checks of the numbers
-      decided : build m N row (length before) ≡ check NoRoom (ltb (length before) (byte_count bits)) (accepted bits)
+      decided : build m N row (length before) ≡ check NoRoom (ltb (length before) (byte_count bits)) (Ok bits)
       unfolding build
       decided = tree-legal m N (length row) p _ ∙ each-passed OutsideAlphabet N 0 row _ numbers ∙ rw (bytes, long)
 
       -- the output is too short
-      pub build-room : length before < byte_count bits → Built m N row before before (refused NoRoom)
-      build-room h = answer (refused NoRoom) (decided ∙ rw (lt-ltb (length before) (byte_count bits) h))
+      pub build-room : length before < byte_count bits → Built m N row before before (Err NoRoom)
+      build-room h = answer (Err NoRoom) (decided ∙ rw (lt-ltb (length before) (byte_count bits) h))
 
       -- the first bytes of b, which were 0 before the bitmaps were set in them, are copied
       pub build-done : (k : ℕ) (b after : List ℕ) → bits ≤ 8 * k → unpack b ≡ sets (unpack (replicate k 0)) 0 (bitmaps m N row)
           → byte_count bits ≤ length before → after ≡ take (byte_count bits) b ++ drop (byte_count bits) before → Bytes after
-          → Built m N row before after (accepted bits)
+          → Built m N row before after (Ok bits)
       unfolding index
       build-done k b after few e h copied small =
-          let x = answer (accepted bits) (decided ∙ rw (le-ltb (length before) (byte_count bits) h)) in
+          let x = answer (Ok bits) (decided ∙ rw (le-ltb (length before) (byte_count bits) h)) in
           let low : Bytes (take (byte_count bits) b) = bytes-front (take (byte_count bits) b) (drop (byte_count bits) before) (rw copied at small) in
           let front : take (byte_count bits) b ≡ index m N row = rw long (packed-front k b (bitmaps m N row) (omega arith) e (rw (← long) low)) in
           (x.0, copied ∙ ap₂ (λ (l : List ℕ) (n : ℕ). l ++ drop n before) front (sym bytes) ∙ x.1)

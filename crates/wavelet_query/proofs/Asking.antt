@@ -1,128 +1,69 @@
 -- The answers of the three questions, from what their walks give.
-use mathlib.Core.Path.{◌≡◌, sym, ap, ap₂, ◌∙◌}
-use mathlib.Core.Bool.{true, false}
+use mathlib.Core.Path.{◌≡◌, refl, sym, ap, ◌∙◌}
+use mathlib.Core.Bool.{Bool, true, false, not}
 use mathlib.Core.List.{List}
-use Prim.Native.Nat.{ℕ, ◌-◌, ◌≤◌, ◌<◌}
+use Prim.Native.Nat.{ℕ, ◌-◌, ◌<◌}
 use native.Mathlib.Omega.{arith}
 use native.Mathlib.Decide.{dec_le}
-use lib.Dec.{eqb}
-use lib.ListN.{length, length-map}
+use lib.Dec.{leb, ltb, eqb}
+use lib.ListN.{length, take, length-map}
 use lib.Seq.{take_all}
-use borrow.Author.Tests.{le-leb, lt-leb, lt-ltb, le-ltb, eq-eqb, ne_eqb}
-use Rattle.bits.specs.Bits.{count}
-use Rattle.bits.proofs.Select as bit
+use borrow.Author.Tests.{le-leb, lt-leb, leb-false, lt-ltb, le-ltb, ltb-false, not-false, eqb-false}
+use Rattle.std.specs.Prelude.{Ok, Err}
+use Rattle.bits.specs.Bits.{count, select_bit}
+use Rattle.bits.proofs.Select.{select-found, select-none}
 use Rattle.calls.specs.declared.Refusal.{Refusal}
 use Rattle.calls.specs.declared.Refusal.TheVariants.{BadPlace, BadUse, OutsideAlphabet, TooFewUses}
-use Rattle.calls.specs.Calls.{Outcome, accepted, refused}
-use Rattle.calls.specs.Limits.{is_number, is_outside}
-use Rattle.calls.proofs.Checks.{inside-number}
+use Rattle.calls.specs.Calls.{Outcome, check, and_then}
+use Rattle.calls.specs.Limits.{is_number}
+use Rattle.calls.proofs.Checks.{outside-is}
 use Rattle.wavelet.specs.Bitmaps.{row_of_index}
-use Rattle.wavelet.specs.Questions.{uses, rank_in, select_in, ask, extract, rank, select}
-use Rattle.wavelet.specs.declared.QuestionAnswer.{QuestionAnswer}
-use Rattle.wavelet.specs.declared.QuestionAnswer.TheVariants.{Answered, Refused}
+use Rattle.wavelet.specs.Questions.{uses, rank_in, select_in, extract, rank, select}
 use Rattle.wavelet_walk.specs.Leaves.{Walks}
-use Rattle.wavelet_walk.specs.declared.Question.{Question}
 use Rattle.wavelet_walk.specs.declared.Question.TheVariants.{Extract, Rank, Select}
 
--- what a walk gives, by its answer
-module _ (m N k : ℕ) (s : List ℕ) (question : Question) (n i : ℕ) {w : QuestionAnswer} (h : Walks m N k s question n i w) where
-  pub walk_refused : (r : Refusal) → w ≡ Refused r → (next : Outcome (ℕ × ℕ)) → refused r ≡ ask m N k s next
-  walk_refused r e = rw e at h
+-- what comes after a check matters only where it is passed
+check-same : {A : Type 0} (r : Refusal) (t : Bool) (x y : Outcome A) → (t ≡ false → x ≡ y) → check r t x ≡ check r t y
+check-same r true x y h = refl
+check-same r false x y h = h refl
 
-  pub walk-answered : (r v : ℕ) → w ≡ Answered r v → Walks m N k s question n i (Answered r v)
-  walk-answered r v e = rw e at h
+-- and a check may be written in another way
+check_is : {A : Type 0} (r : Refusal) (t u : Bool) (x y : Outcome A) → t ≡ u → (u ≡ false → x ≡ y) → check r t x ≡ check r u y
+check_is r t u x y e h = rw e (check-same r u x y h)
 
+-- Each question goes on with what its walk answers, by checks of what is asked for
 module _ (m N k : ℕ) (s : List ℕ) where
-  -- ## Extract
+  pub extract_walked : (i : ℕ) (w : Outcome (ℕ × ℕ)) → Walks m N k s Extract 0 i w → extract m N k s i ≡ and_then w (λ found. check BadPlace (leb k i) (Ok found))
+  unfolding extract
+  extract_walked i (Err r) w = w _
+  extract_walked i (Ok found) w = w.0 _ ∙ check-same BadPlace (leb k i) _ _ (λ e. ap Ok (sym (w.2 (leb-false k i e))))
 
-  module _ (i : ℕ) where
-    pub extract-refused : (r : Refusal) → ((next : Outcome (ℕ × ℕ)) → refused r ≡ ask m N k s next) → refused r ≡ extract m N k s i
-    unfolding extract
-    extract-refused r go = go _
+  pub rank_walked : (n i : ℕ) (w : Outcome (ℕ × ℕ)) → Walks m N k s Rank n i w
+      → rank m N k s n i ≡ and_then w (λ found. check (OutsideAlphabet 0) (not (is_number N n)) (check BadPlace (ltb k i) (Ok found)))
+  unfolding rank
+  rank_walked n i (Err r) w = w _
+  rank_walked n i (Ok found) w =
+      w.0 _ ∙ check_is (OutsideAlphabet 0) _ _ _ _ (sym (outside-is N n)) (λ legal.
+      check-same BadPlace (ltb k i) _ _ (λ e. ap Ok (sym (w.2 (not-false _ legal, ltb-false k i e)))))
 
-    module _ (n : ℕ) (r v : ℕ) (w : Walks m N k s Extract n i (Answered r v)) where
-      pub extract-place : k ≤ i → refused BadPlace ≡ extract m N k s i
-      unfolding extract
-      extract-place h = sym (simp (le-leb k i h)) ∙ w.0 _
+  -- the walk for the use that has j - 1 others before it: its place is in the row exactly where there are j uses
+  pub select_walked : (n j : ℕ) (w : Outcome (ℕ × ℕ)) → Walks m N k s Select n (j - 1) w
+      → select m N k s n j ≡ and_then w (λ found. check (OutsideAlphabet 0) (not (is_number N n)) (check BadUse (eqb j 0) (check TooFewUses (leb k found.0) (Ok found))))
+  unfolding select select_in rank_in
+  select_walked n j (Err r) w = w _
+  select_walked n j (Ok found) w =
+      w.0 _ ∙ check_is (OutsideAlphabet 0) _ _ _ _ (sym (outside-is N n)) (λ legal.
+      let told = w.2 (not-false _ legal) in
+      check-same BadUse (eqb j 0) _ _ (λ some. check_is TooFewUses _ _ _ _ (few (ap (λ (x : ℕ × ℕ). x.0) told) (eqb-false j 0 some)) (λ e. ap Ok (sym told))))
+    where
+      row : List ℕ
+      row = row_of_index m N k s
 
-      pub extract-found : i < k → accepted (r, v) ≡ extract m N k s i
-      unfolding extract
-      extract-found h = ap₂ (λ (x y : ℕ). accepted (x, y)) (w.2 h).0 (w.2 h).1 ∙ sym (simp (lt-leb k i h)) ∙ w.0 _
-
-  -- ## Rank
-
-  module _ (n i : ℕ) where
-    pub rank-refused : (r : Refusal) → ((next : Outcome (ℕ × ℕ)) → refused r ≡ ask m N k s next) → refused r ≡ rank m N k s n i
-    unfolding rank
-    rank-refused r go = go _
-
-    module _ (r v : ℕ) (w : Walks m N k s Rank n i (Answered r v)) where
-      pub rank-number : is_outside N n ≡ true → refused (OutsideAlphabet 0) ≡ rank m N k s n i
-      unfolding rank
-      rank-number e = sym (simp e) ∙ w.0 _
-
-      pub rank-place : is_outside N n ≡ false → k < i → refused BadPlace ≡ rank m N k s n i
-      unfolding rank
-      rank-place e h = sym (simp (e, lt-ltb k i h)) ∙ w.0 _
-
-      pub rank-found : is_outside N n ≡ false → i ≤ k → accepted (r, v) ≡ rank m N k s n i
-      unfolding rank
-      rank-found e h = ap₂ (λ (x y : ℕ). accepted (x, y)) (w.2 (inside-number N n e, h)).0 (w.2 (inside-number N n e, h)).1 ∙ sym (simp (e, le-ltb k i h)) ∙ w.0 _
-
-  -- ## Select
-
-  module _ (n j : ℕ) where
-    pub select-refused : (r : Refusal) → ((next : Outcome (ℕ × ℕ)) → refused r ≡ ask m N k s next) → refused r ≡ select m N k s n j
-    unfolding select
-    select-refused r go = go _
-
-    -- the walk for the use that has j - 1 others before it
-    module _ (i : ℕ) (same : i ≡ j - 1) (r v : ℕ) (walks : Walks m N k s Select n i (Answered r v)) where
-      w : Walks m N k s Select n (j - 1) (Answered r v)
-      w = rw same at walks
-
-      pub select-number : is_outside N n ≡ true → refused (OutsideAlphabet 0) ≡ select m N k s n j
-      unfolding select
-      select-number e = sym (simp e) ∙ w.0 _
-
-      module _ (e : is_outside N n ≡ false) where
-        legal : is_number N n ≡ true
-        legal = inside-number N n e
-
-        pub select-none : j ≡ 0 → refused BadUse ≡ select m N k s n j
-        unfolding select
-        select-none z = sym (simp (e, eq-eqb j 0 z)) ∙ w.0 _
-
-        module _ (some : 1 ≤ j) where
-          uses-length : length (uses n (row_of_index m N k s)) ≡ k
-          uses-length = length-map (row_of_index m N k s) (eqb n) ∙ w.1
-
-          all-uses : rank_in (row_of_index m N k s) n k ≡ count true (uses n (row_of_index m N k s))
-          unfolding rank_in
-          all-uses = ap (λ (l : List ℕ). count true (uses n l)) (take_all k (row_of_index m N k s) (omega (arith, w.1)))
-
-          -- the place is in the row exactly where there are j uses
-          few : k ≤ r → rank_in (row_of_index m N k s) n k < j
-          few h =
-              elim (dec_le j (count true (uses n (row_of_index m N k s)))) [
-                | yes l ↦ absurd (omega (arith, (w.2 legal).0, uses-length, bit.select-found true (j - 1) (uses n (row_of_index m N k s)) (omega arith)))
-                | no l ↦ omega (arith, all-uses)
-              ]
-
-          enough : r < k → j ≤ rank_in (row_of_index m N k s) n k
-          enough h =
-              elim (dec_le j (count true (uses n (row_of_index m N k s)))) [
-                | yes l ↦ omega (arith, all-uses)
-                | no l ↦ absurd (omega (arith, (w.2 legal).0, uses-length, bit.select-none true (j - 1) (uses n (row_of_index m N k s)) (omega arith)))
-              ]
-
-          positive : eqb j 0 ≡ false
-          positive = ne_eqb j 0 (λ z. omega arith)
-
-          pub select-fewer : k ≤ r → refused TooFewUses ≡ select m N k s n j
-          unfolding select
-          select-fewer h = sym (simp (e, positive, lt-ltb _ j (few h))) ∙ w.0 _
-
-          pub select-found : r < k → accepted (r, v) ≡ select m N k s n j
-          unfolding select select_in
-          select-found h = ap₂ (λ (x y : ℕ). accepted (x, y)) (w.2 legal).0 (w.2 legal).1 ∙ sym (simp (e, positive, le-ltb _ j (enough h))) ∙ w.0 _
+      few : found.0 ≡ select_bit true (j - 1) (uses n row) → (j ≡ 0 → ⊥) → ltb (rank_in row n k) j ≡ leb k found.0
+      few place some =
+          let long : length (uses n row) ≡ k = length-map row (eqb n) ∙ w.1 in
+          let all : take k row ≡ row = take_all k row (omega (arith, w.1)) in
+          rw all (elim (dec_le j (count true (uses n row))) [
+            | yes l ↦ rw (le-ltb _ j l) (sym (lt-leb k found.0 (omega (arith, place, long, select-found true (j - 1) (uses n row) (omega arith)))))
+            | no l ↦ let less : count true (uses n row) < j = omega arith in rw (lt-ltb _ j less) (sym (le-leb k found.0 (omega (arith, place, long, select-none true (j - 1) (uses n row) (omega arith)))))
+          ])

@@ -2,12 +2,13 @@
 use mathlib.Core.Path.{◌≡◌, refl, sym, ap, ◌∙◌}
 use mathlib.Core.Bool.{Bool, true}
 use mathlib.Core.List.{List, [], ◌∷◌, ◌++◌}
-use Prim.Native.Nat.{ℕ, ◌+◌, ◌-◌, ◌≤◌, ◌<◌}
+use Prim.Native.Nat.{ℕ, ◌+◌, ◌-◌, ◌*◌, ◌≤◌, ◌<◌}
 use native.Mathlib.Omega.{arith}
 use native.Mathlib.Decide.{dec_le}
 use lib.ListN.{length, take, drop, replicate}
 use lib.Seq.{take-take}
-use Rattle.bits.specs.Bits.{bit_of, count}
+use Rattle.bits.specs.Bits.{unpack, count}
+use Rattle.bits.proofs.Bytes.{unpack-length}
 use Rattle.fibonacci.specs.Code.{codeword}
 use Rattle.wavelet.specs.Nodes.{is_prefix, Tree, node}
 use Rattle.wavelet.specs.Bitmaps.{need, row_of_bitmaps}
@@ -21,33 +22,12 @@ use Rattle.wavelet_walk.specs.Leaves.{answer_of, at_leaf, InView, turn, onward, 
 use Rattle.wavelet_walk.specs.declared.Question.{Question}
 use Rattle.wavelet_walk.specs.declared.Question.TheVariants.{Extract, Rank, Select}
 
--- ## In the code
-
--- not extract: the walk goes by a codeword
-pub by-codeword : (question : Question) → (question ≡ Extract → ⊥) → (x : ℕ) (s : List ℕ) (at i depth : ℕ)
-    → bit_of x (31 - depth) ≡ turn question x s at i depth
-by-codeword Extract h x s at i depth = absurd (h refl)
-by-codeword Rank h x s at i depth = refl
-by-codeword Select h x s at i depth = refl
-
--- not select: a place is in view, and what was found stays
-pub in_place : (question : Question) → (question ≡ Select → ⊥) → (i k : ℕ) → InView question i k → i ≤ k
-in_place Extract h i k v = v
-in_place Rank h i k v = v
-in_place Select h i k v = absurd (h refl)
-
-pub found-stays : (question : Question) → (question ≡ Select → ⊥) → (a : Bool) (b : List Bool) (r : ℕ) → r ≡ back question a b r
-found-stays Extract h a b r = refl
-found-stays Rank h a b r = refl
-found-stays Select h a b r = absurd (h refl)
-
-pub place-onward : (question : Question) → (question ≡ Select → ⊥) → (a : Bool) (b : List Bool) (at i c : ℕ)
-    → at + i ≤ length b → c ≡ count true (take i (drop at b)) → side a (i - c) c ≡ onward question a (drop at b) i
-place-onward Extract h a b at i c fits ones = sym (count-side i b at c fits ones a)
-place-onward Rank h a b at i c fits ones = sym (count-side i b at c fits ones a)
-place-onward Select h a b at i c fits ones = absurd (h refl)
-
 -- ## What is in view
+
+-- how many of the numbers before a place are on a side
+pub place_onward : (s : List ℕ) (a : Bool) (at i c : ℕ) → at + i ≤ 8 * length s → c ≡ count true (take i (drop at (unpack s)))
+    → side a (i - c) c ≡ count a (take i (drop at (unpack s)))
+place_onward s a at i c fits ones = sym (count-side i (unpack s) at c (omega (arith, unpack-length s)) ones a)
 
 pub view-within : (question : Question) (at i k l : ℕ) → InView question i k → at + k ≤ l → InView question (at + i) l
 view-within Extract at i k l v h = omega arith

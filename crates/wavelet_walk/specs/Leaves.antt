@@ -1,7 +1,7 @@
 -- What the functions that walk an index promise.
-use Rattle.std.specs.Prelude.{◌≡◌, Bool, true, false, List, ℕ, ◌+◌, ◌-◌, ◌*◌, ◌≤◌, ◌<◌, min, length, get_or, take, drop}
+use Rattle.std.specs.Prelude.{◌≡◌, Bool, true, false, List, ℕ, ◌+◌, ◌-◌, ◌≤◌, ◌<◌, min, length, get_or, take, drop, Option, Some, None, Ok, Err}
 use Rattle.bits.specs.Bits.{bit_of, unpack, count, select_bit}
-use Rattle.calls.specs.Calls.{Outcome, refused}
+use Rattle.calls.specs.Calls.{Outcome}
 use Rattle.calls.specs.Limits.{is_number}
 use Rattle.fibonacci.specs.Code.{codeword}
 use Rattle.wavelet.specs.Nodes.{is_prefix, Tree, prune, visits}
@@ -9,8 +9,6 @@ use Rattle.wavelet.specs.Bitmaps.{row_of_bitmaps, row_of_index}
 use Rattle.wavelet.specs.Questions.{uses, rank_in, ask}
 use Rattle.wavelet.specs.Leaves.{CursorAt, Ends, visits_in, Aligned}
 use Rattle.wavelet.specs.declared.Cursor.{Cursor}
-use Rattle.wavelet.specs.declared.QuestionAnswer.{QuestionAnswer}
-use Rattle.wavelet.specs.declared.QuestionAnswer.TheVariants.{Answered, Refused}
 use Rattle.wavelet_walk.specs.declared.Question.{Question}
 use Rattle.wavelet_walk.specs.declared.Question.TheVariants.{Extract, Rank, Select}
 use Rattle.wavelet_walk.specs.declared.Walked.{Walked}
@@ -83,10 +81,11 @@ pub record Arrived (m N : ℕ) (q : List Bool) (t : Tree) (b : List Bool) (k : �
   pub at_place : question ≡ Extract → i < k → number ≡ get_or (row_of_bitmaps t k b) i 0
   pub at_codeword : (n : ℕ) → Goes question m N q x n → number ≡ n
 
--- So below a string of the tree, where the bitmaps do not run past the bytes
-abbrev pub Finds : ℕ → ℕ → Cursor → ℕ → List ℕ → ℕ → Question → ℕ → ℕ → Walked → Type 0
-Finds m N v k s at question x i r = Ends m N v k s at r.end
-    × (r.end ≤ 8 * length s → (f : ℕ) (q : List Bool) → CursorAt m N f q v → Arrived m N q (prune m N f q) (drop at (unpack s)) k question x i v.depth r)
+-- So below a string of the tree, if the bitmaps do not run past the bytes
+abbrev pub Finds : ℕ → ℕ → Cursor → ℕ → List ℕ → ℕ → Question → ℕ → ℕ → Option Walked → Type 0
+Finds m N v k s at question x i None = Ends m N v k s at None
+Finds m N v k s at question x i (Some r) = Ends m N v k s at (Some r.end)
+    × ((f : ℕ) (q : List Bool) → CursorAt m N f q v → Arrived m N q (prune m N f q) (drop at (unpack s)) k question x i v.depth r)
 
 -- ## A walk of the whole index
 
@@ -97,15 +96,15 @@ Askable Rank N k n i = (is_number N n ≡ true) × (i ≤ k)
 Askable Select N k n i = is_number N n ≡ true
 
 -- What the row answers, and the visits of the number concerned
-abbrev pub Tells : ℕ → ℕ → List ℕ → Question → ℕ → ℕ → ℕ → ℕ → Type 0
-Tells m N row question n i result seen =
+abbrev pub Tells : ℕ → ℕ → List ℕ → Question → ℕ → ℕ → ℕ × ℕ → Type 0
+Tells m N row question n i found =
     let c = concerned question n i row in
-    (result ≡ answer_of question c i row) × (seen ≡ visits m N c)
+    found ≡ (answer_of question c i row, visits m N c)
 
 -- It refuses what the questions refuse before they look at what they are asked for. Else they go on, and the walk has their answer for what is legal
-abbrev pub Walks : ℕ → ℕ → ℕ → List ℕ → Question → ℕ → ℕ → QuestionAnswer → Type 0
-Walks m N k s question n i (Refused r) = (next : Outcome (ℕ × ℕ)) → refused r ≡ ask m N k s next
-Walks m N k s question n i (Answered result seen) =
-    ((next : Outcome (ℕ × ℕ)) → next ≡ ask m N k s next)
+abbrev pub Walks : ℕ → ℕ → ℕ → List ℕ → Question → ℕ → ℕ → Outcome (ℕ × ℕ) → Type 0
+Walks m N k s question n i (Err r) = (next : Outcome (ℕ × ℕ)) → ask m N k s next ≡ Err r
+Walks m N k s question n i (Ok found) =
+    ((next : Outcome (ℕ × ℕ)) → ask m N k s next ≡ next)
     × (length (row_of_index m N k s) ≡ k)
-    × (Askable question N k n i → Tells m N (row_of_index m N k s) question n i result seen)
+    × (Askable question N k n i → Tells m N (row_of_index m N k s) question n i found)

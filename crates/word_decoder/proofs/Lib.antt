@@ -1,2 +1,2 @@
 pub mod Taking
-pub mod Spans
+pub mod Told

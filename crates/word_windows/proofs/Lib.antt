@@ -1,2 +1,3 @@
 pub mod Starts
 pub mod Loading
+pub mod Found

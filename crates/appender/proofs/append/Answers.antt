@@ -1,70 +1,50 @@
-use mathlib.Core.Path.{◌≡◌, sym, ap, subst}
+use mathlib.Core.Path.{sym}
 use Prim.Native.Nat.{ℕ, ◌+◌, ◌*◌, ◌≤◌}
 use native.Mathlib.Omega.{arith}
-use lib.ListN.{length}
+use lib.ListN.{length, length-take, length-drop}
+use Rattle.std.proofs.Math.Facts.{Fits-lt-pow}
+use Rattle.std.proofs.lemmas.Result.{err_from_is_err_and}
 use Rattle.bits.specs.Bits.{word_bits}
 use Rattle.bits.proofs.Put.{put-part}
-use Rattle.headers.specs.declared.Header.{Header}
-use Rattle.headers.specs.Headers.{max_bits}
 use Rattle.headers.proofs.Headers.{capacity-most}
-use Rattle.appender.specs.Leaves.{Plans}
-use Rattle.appender.specs.declared.Planned.{Planned}
-use Rattle.appender.specs.declared.Planned.TheVariants.{Put, Refused}
-use Rattle.appender.proofs.Appending.{append-is, append-refused, append-put}
+use Rattle.appender.proofs.Appending.{append-is, append-order, append-refused, append-put}
 use Rattle.appender.proofs.append.Goals as goal
-use Rattle.appender.proofs.append.Goals.{After-plan-planned, In-Put}
+use Rattle.appender.proofs.append.Goals.{In_ok-word}
 
--- what was planned
-plans : (c : After-plan-planned) (p : Planned) → c.plan-planned.result ≡ p
-    → let a = c.args in
-    Plans a.order (length a.buf.now) a.header a.n p
-plans c p e =
-    let a = c.args in
-    subst (λ (n : ℕ). Plans a.order (length a.buf.now) a.header n p) c.wide.ensures
-    (subst (λ (p : Planned). Plans a.order (length a.buf.now) a.header c.wide.result p) e c.plan-planned.ensures)
+pub returns-in_err-order : goal.returns-in_err-order
+returns-in_err-order c =
+    let p = err_from_is_err_and c.from_residual.result c.from_residual.ensures.1 in
+    let e = append-order _ _ _ _ c.in_err-order.ensures.1 in
+    rw (p.1, p.2, c.in_err-order.ensures.0) (sym e, append-refused _ _ _ _ _ e)
 
--- a codeword is to be put
-module _ (c : In-Put) where
-  planned : let a = c.args in Plans a.order (length a.buf.now) a.header a.n (Put c.in-Put.x)
-  planned = plans (goal.at.In-Put c).After-plan-planned (Put c.in-Put.x) c.in-Put.is
+pub returns-in_err-word : goal.returns-in_err-word
+returns-in_err-word c =
+    let p = err_from_is_err_and c.from_residual-in_err-word.result c.from_residual-in_err-word.ensures.1 in
+    rw (p.1, p.2, ← c.in_ok-order.ensures.0, ← c.from.ensures) (sym c.in_err-word.ensures, append-refused _ _ _ _ _ c.in_err-word.ensures)
 
-  -- there is room for it
-  room : let a = c.args in
-      let x = c.in-Put.x in
-      (a.header.bits + x.word.len ≤ 8 * length a.buf.now) × (x.header.bits ≤ max_bits)
-  room =
-      let a = c.args in
-      let x = append-is a.order (length a.buf.now) a.header a.n _ planned.0 in
-      let fits = x.0.fits in
-      let most = capacity-most (length a.buf.now) in
-      (omega (arith, fits, most, planned.1.2), omega (arith, fits, most, ap (λ (p : ℕ × Header). p.1.bits) x.1))
+-- there is room for the codeword
+room : (c : In_ok-word) → c.args.header.bits + c.in_ok-word.word.len ≤ 8 * length c.args.buf.now
+room c =
+    let x = append-is c.in_ok-order.order.m (length c.args.buf.now) c.args.header c.from.result _ c.in_ok-word.ensures.0 in
+    omega (arith, x.0.fits, capacity-most (length c.args.buf.now), c.in_ok-word.ensures.1.1)
 
 pub slice_bounds-put_word-count : goal.slice_bounds-put_word-count
-slice_bounds-put_word-count c = omega (arith, room (goal.at.slice_bounds-put_word-count c).In-Put)
+slice_bounds-put_word-count c = omega (arith, room (goal.at.slice_bounds-put_word-count c).In_ok-word)
 
 pub slice_bounds-put_word-start : goal.slice_bounds-put_word-start
-slice_bounds-put_word-start c = omega (arith, room (goal.at.slice_bounds-put_word-start c).In-Put)
+slice_bounds-put_word-start c = omega (arith, room (goal.at.slice_bounds-put_word-start c).In_ok-word)
 
 pub put_word-requires : goal.put_word-requires
-put_word-requires c =
-    let w = (planned (goal.at.put_word-requires c).In-Put).1 in
-    (omega arith, w.3, omega (arith, w.4), w.1, omega (arith, room (goal.at.put_word-requires c).In-Put))
+put_word-requires c = (omega arith, omega (arith, room (goal.at.put_word-requires c).In_ok-word, length-take {A = ℕ}, length-drop {A = ℕ}))
 
-pub overflow_add-result : goal.overflow_add-result
-overflow_add-result c = omega (arith, room (goal.at.overflow_add-result c).In-Put)
-
-pub returns-in-Refused : goal.returns-in-Refused
-returns-in-Refused c =
-    let p = plans (goal.at.returns-in-Refused c).After-plan-planned (Refused c.in-Refused.r) c.in-Refused.is in
-    (sym p, append-refused _ _ _ _ _ p)
-
-pub returns-in-Put : goal.returns-in-Put
-returns-in-Put c =
-    let a = c.args in
-    let p = planned (goal.at.returns-in-Put c).In-Put in
-    let x = c.in-Put.x in
-    let w = c.put_word in (
-      sym p.0,
-      append-put a.order a.buf.now a.header a.n _ p.0 _ (λ i. (c.slice_known-1.given i).fits) (λ i. (c.slice_known-in-Put-1.given i).fits)
-          (rw (← p.1.0) (put-part a.buf.now w.new.s a.header.bits (word_bits x.word.len x.word.bits) (omega (arith, room (goal.at.returns-in-Put c).In-Put)) w.ensures)),
+pub returns : goal.returns
+returns c =
+    let x = (goal.at.returns c).In_ok-word in
+    let buf = c.args.buf.now in
+    let w = c.in_ok-word.word in
+    let e = c.in_ok-word.ensures in
+    rw (← c.in_ok-order.ensures.0, ← c.from.ensures, c.bytes.ensures) (
+      sym e.0,
+      append-put _ buf c.args.header _ _ e.0 _ (λ i. Fits-lt-pow (x.type_inv.buf i)) (λ i. Fits-lt-pow (c.type_inv.buf i))
+          (rw (← e.1.0) (put-part buf c.put_word.new.s c.args.header.bits (word_bits w.len w.bits) (omega (arith, room x)) c.put_word.ensures)),
     )

@@ -1,34 +1,16 @@
-use mathlib.Core.Path.{◌≡◌, refl}
-use Prim.Native.Nat.{◌*◌}
-use native.Mathlib.Omega.{arith}
-use Rattle.bits.specs.Bits.{word_bits}
+use mathlib.Core.Path.{ap, ◌∙◌}
+use mathlib.Core.List.{List}
+use Prim.Native.Nat.{ℕ}
+use Rattle.std.proofs.Math.Facts.{Fits-lt-pow}
+use Rattle.bits.specs.Bits.{unpack}
 use Rattle.bits.specs.Leaves.{fit}
-use Rattle.bit_moves.proofs.Words.{word_more}
+use Rattle.bits.proofs.Packing.{bytes_drop, bytes_take}
+use Rattle.bit_moves.proofs.Words.{rest-of, word_filled}
 use Rattle.bit_moves.proofs.word_or_zeros.Goals as goal
-
-pub loop-k-init : goal.loop-k-init
-unfolding word_bits fit
-loop-k-init c = (omega arith, omega arith, refl)
-
-pub overflow_add-j : goal.overflow_add-j
-overflow_add-j c = omega arith
-
-pub overflow_step-k : goal.overflow_step-k
-overflow_step-k c = omega arith
-
-pub loop-k-smaller : goal.loop-k-smaller
-loop-k-smaller c = omega arith
-
-pub loop-k-preserved : goal.loop-k-preserved
-loop-k-preserved c =
-    let a = c.args in
-    let l = c.loop-k in
-    let m = word_more a.s.now a.j l.k l.w c.byte_or_zero.result (omega arith) l.invariant.1 l.invariant.2 c.byte_or_zero.ensures in
-    (omega arith, m.0, m.1)
 
 pub returns : goal.returns
 returns c =
     let a = c.args in
-    let l = c.loop-k in
-    let end : 8 * l.k ≡ 64 = omega arith in
-    rw end at l.invariant.2
+    let bytes = bytes_take _ _ (bytes_drop c.min.result a.s.now (λ i. Fits-lt-pow (c.type_inv.s i))) in
+    word_filled _ c.min-n.result c.min-n.ensures bytes c.copy_from_slice.ensures.after c.from_be_bytes.ensures
+    ∙ ap (λ (l : List ℕ). fit 64 (unpack l)) (rest-of a.s.now a.j c.min.result c.min.ensures)

@@ -1,15 +1,8 @@
-use borrow.Author.Rules.{rules}
-use Rattle.bits.specs.Bits.{word_bits}
-use Rattle.bits.specs.Leaves.{put_at}
-use Rattle.bits.proofs.Words.{words-length}
-use Rattle.bits.proofs.Put.{put-stored}
+use native.Mathlib.Omega.{arith}
+use Rattle.bits.proofs.Put.{put-stored-at}
 use Rattle.bit_writer.proofs.put_word.Goals as goal
 
 pub returns : goal.returns
-unfolding put_at
 returns c =
-    let a = c.args in
-    let joined = c.joined-all in
-    rw (words-length a.len a.word)
-    (put-stored a.s.now _ a.o _ joined.result (word_bits a.len a.word) (search rules) (search rules) (search rules) joined.ensures
-    c.store.ensures)
+    put-stored-at c.args.s.now _ c.args.o c.div_ceil-count.result c.joined-all.result c.args.word.len c.args.word.bits
+    (omega arith) (omega arith) (omega arith) (omega arith) c.joined-all.ensures c.store.ensures

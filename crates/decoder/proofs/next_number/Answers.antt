@@ -4,28 +4,40 @@ use Rattle.bits.proofs.Bytes.{unpack-length}
 use Rattle.decoder.proofs.Steps.{step-many, step-large, step-number, step-rest, step_end}
 use Rattle.decoder.proofs.next_number.Goals as goal
 
-pub returns-then-is_padding : goal.returns-then-is_padding
-returns-then-is_padding c = λ row g.
-    step_end c.args.s.now c.requires.0.0 c.seek-next.ensures g c.if-next-order.true (sym c.is_padding.ensures ∙ c.if-is_padding.true)
+pub returns-then-not-is_padding : goal.returns-then-not-is_padding
+returns-then-not-is_padding c = λ row g.
+    let e = c.args.encoding in
+    let r = c.in-Rest.ensures in
+    step-rest e.bytes.now e.order.in_use g r.0 r.2 (sym c.is_padding.ensures ∙ c.if-not-is_padding.true)
 
-pub returns-then-next-order : goal.returns-then-next-order
-returns-then-next-order c = λ row g.
-    step-rest c.args.s.now c.requires.0.0 c.seek-next.ensures g c.if-next-order.true (sym c.is_padding.ensures ∙ c.if-is_padding.false)
+pub returns-else-not-is_padding : goal.returns-else-not-is_padding
+returns-else-not-is_padding c = λ row g.
+    let e = c.args.encoding in
+    let r = c.in-Rest.ensures in
+    step_end e.bytes.now e.order.in_use g r.0 r.2 (sym c.is_padding.ensures ∙ c.if-not-is_padding.false)
 
 pub returns-then-count-eq-MAX_COUNT : goal.returns-then-count-eq-MAX_COUNT
 returns-then-count-eq-MAX_COUNT c = λ row g.
-    step-many c.args.s.now c.requires.0.0 c.seek-next.ensures g c.if-next-order.false c.if-count-eq-MAX_COUNT.true
+    let e = c.args.encoding in
+    let r = c.in-Codeword.ensures in
+    step-many e.bytes.now e.order.in_use g r.0 r.1 c.if-count-eq-MAX_COUNT.true
 
 pub number-n-requires : goal.number-n-requires
 number-n-requires c =
-    (c.requires.0, omega (arith, c.seek-next.ensures.small, c.seek-next.ensures.within, unpack-length c.args.s.now, c.requires.1))
+    let e = c.args.encoding in
+    let p = c.in-Codeword.ensures.0 in
+    omega (arith, p.small, p.within, unpack-length e.bytes.now, e.short)
 
 pub returns-then-not-is_number : goal.returns-then-not-is_number
 returns-then-not-is_number c = λ row g.
-    step-large c.args.s.now c.requires.0.0 c.seek-next.ensures g c.if-next-order.false c.number-n.result c.number-n.ensures c.requires.2
-    c.if-count-eq-MAX_COUNT.false (sym c.is_number.ensures ∙ c.if-not-is_number.true)
+    let e = c.args.encoding in
+    let r = c.in-Codeword.ensures in
+    step-large e.bytes.now e.order.in_use g r.0 r.1 c.number-n.result c.number-n.ensures (omega arith) c.if-count-eq-MAX_COUNT.false
+    (sym c.is_number.ensures ∙ c.if-not-is_number.true)
 
-pub returns : goal.returns
-returns c = λ row g.
-    step-number c.args.s.now c.requires.0.0 c.seek-next.ensures g c.if-next-order.false c.number-n.result c.number-n.ensures c.requires.2
-    c.if-count-eq-MAX_COUNT.false (sym c.is_number.ensures ∙ c.if-not-is_number.false)
+pub returns-else-not-is_number : goal.returns-else-not-is_number
+returns-else-not-is_number c = λ row g.
+    let e = c.args.encoding in
+    let r = c.in-Codeword.ensures in
+    step-number e.bytes.now e.order.in_use g r.0 r.1 c.number-n.result c.number-n.ensures (omega arith) c.if-count-eq-MAX_COUNT.false
+    (sym c.is_number.ensures ∙ c.if-not-is_number.false)

@@ -1,42 +1,34 @@
-use mathlib.Core.Path.{◌≡◌, sym, ◌∙◌}
-use mathlib.Core.Bool.{true}
 use native.Mathlib.Omega.{arith}
-use Rattle.calls.specs.Limits.{is_order, max_number}
-use Rattle.calls.specs.Reading.{decode}
-use Rattle.calls.proofs.Checks.{order_is}
-use Rattle.reading.specs.Reading.{fibonacci}
-use Rattle.calls.proofs.Decoding.{holds_row}
-use Rattle.reading.proofs.Decoding.{read-order, delivered-read}
+use Rattle.std.proofs.lemmas.Result.{err_from_is_err_and}
+use Rattle.reading.proofs.Decoding.{read-order, delivered-read, refused-read}
 use Rattle.decoder.proofs.read.Goals as goal
-use Rattle.decoder.proofs.read.Goals.{Else-not-is_order}
 
--- the order has passed its check
-ordered : (c : Else-not-is_order) → is_order c.args.order ≡ true
-ordered c = sym c.is_order.ensures ∙ c.if-not-is_order.false
+pub returns-in_err-order : goal.returns-in_err-order
+returns-in_err-order c =
+    let p = err_from_is_err_and c.from_residual.result c.from_residual.ensures.1 in
+    rw (p.1, p.2, c.in_err-order.ensures.0) (read-order _ _ _ c.in_err-order.ensures.1)
 
-pub returns-then-not-is_order : goal.returns-then-not-is_order
-returns-then-not-is_order c = read-order _ _ _ (sym c.is_order.ensures ∙ c.if-not-is_order.true)
+pub store_row-requires : goal.store_row-requires
+store_row-requires c = omega arith
 
-pub store_row-scanned-requires : goal.store_row-scanned-requires
-store_row-scanned-requires c = (order_is _ (ordered (goal.at.store_row-scanned-requires c).Else-not-is_order), omega arith, omega (arith, c.if-s-le16.true))
-
-pub deliver-requires : goal.deliver-requires
-deliver-requires c =
-    let a = c.args in
-    holds_row (decode (fibonacci a.order) max_number a.s.now) c.store_row-scanned.new.row c.store_row-scanned.result c.store_row-scanned.ensures
+pub returns-in_err-count : goal.returns-in_err-count
+returns-in_err-count c =
+    let p = err_from_is_err_and c.from_residual-in_err-count.result c.from_residual-in_err-count.ensures.1 in
+    let e = c.in_ok-order.ensures in
+    rw (p.1, p.2) (refused-read _ _ _ _ _ e.1 (rw e.0 at c.in_err-count.ensures))
 
 pub returns-then-s-le16 : goal.returns-then-s-le16
 returns-then-s-le16 c =
-    delivered-read _ _ _ _ _ c.store_row-scanned.result c.deliver.result (ordered (goal.at.returns-then-s-le16 c).Else-not-is_order) c.store_row-scanned.ensures c.deliver.ensures
+    let e = c.in_ok-order.ensures in
+    delivered-read _ _ _ _ _ _ _ e.1 (rw e.0 at c.in_ok-count.ensures) c.deliver.ensures.answer c.deliver.ensures.output
 
-pub store_row-scanned-requires-2 : goal.store_row-scanned-requires-2
-store_row-scanned-requires-2 c = (order_is _ (ordered (goal.at.store_row-scanned-requires-2 c).Else-not-is_order), omega arith, omega arith)
-
-pub deliver-requires-2 : goal.deliver-requires-2
-deliver-requires-2 c =
-    let a = c.args in
-    holds_row (decode (fibonacci a.order) max_number a.s.now) c.store_row-scanned-2.new.row c.store_row-scanned-2.result c.store_row-scanned-2.ensures
+pub returns-in_err-count-2 : goal.returns-in_err-count-2
+returns-in_err-count-2 c =
+    let p = err_from_is_err_and c.from_residual-in_err-count-2.result c.from_residual-in_err-count-2.ensures.1 in
+    let e = c.in_ok-order.ensures in
+    rw (p.1, p.2) (refused-read _ _ _ _ _ e.1 (rw e.0 at c.in_err-count-2.ensures))
 
 pub returns : goal.returns
 returns c =
-    delivered-read _ _ _ _ _ c.store_row-scanned-2.result c.deliver-2.result (ordered (goal.at.returns c).Else-not-is_order) c.store_row-scanned-2.ensures c.deliver-2.ensures
+    let e = c.in_ok-order.ensures in
+    delivered-read _ _ _ _ _ _ _ e.1 (rw e.0 at c.in_ok-count-2.ensures) c.deliver-2.ensures.answer c.deliver-2.ensures.output

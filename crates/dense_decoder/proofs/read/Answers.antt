@@ -1,43 +1,24 @@
-use mathlib.Core.Path.{◌≡◌, sym, ◌∙◌}
-use mathlib.Core.Bool.{true}
-use native.Mathlib.Omega.{arith}
-use Rattle.calls.specs.Limits.{max_number}
-use Rattle.calls.specs.Reading.{decode}
-use Rattle.calls.proofs.Decoding.{holds_row}
-use Rattle.dense.specs.Limits.{is_stoppers}
-use Rattle.dense.proofs.Limits.{stoppers-is}
-use Rattle.dense_decoder.specs.Reading.{dense}
-use Rattle.dense_decoder.proofs.Reading.{read-stoppers, delivered-read}
+use Rattle.std.proofs.lemmas.Result.{err_from_is_err_and}
+use Rattle.dense_decoder.proofs.Reading.{read-stoppers, delivered-read, refused-read}
 use Rattle.dense_decoder.proofs.read.Goals as goal
-use Rattle.dense_decoder.proofs.read.Goals.{Else-not-is_stoppers}
 
--- s has passed its check
-checked : (c : Else-not-is_stoppers) → is_stoppers c.args.stoppers ≡ true
-checked c = sym c.is_stoppers.ensures ∙ c.if-not-is_stoppers.false
+pub returns-in_err-stoppers : goal.returns-in_err-stoppers
+returns-in_err-stoppers c =
+    let p = err_from_is_err_and c.from_residual.result c.from_residual.ensures.1 in
+    rw (p.1, p.2, c.in_err-stoppers.ensures.0) (read-stoppers _ _ _ c.in_err-stoppers.ensures.1)
 
-pub returns-then-not-is_stoppers : goal.returns-then-not-is_stoppers
-returns-then-not-is_stoppers c = read-stoppers _ _ _ (sym c.is_stoppers.ensures ∙ c.if-not-is_stoppers.true)
-
-pub store_row-scanned-requires : goal.store_row-scanned-requires
-store_row-scanned-requires c = (stoppers-is _ (checked (goal.at.store_row-scanned-requires c).Else-not-is_stoppers), omega arith, omega (arith, c.if-b-le64.true))
-
-pub deliver-requires : goal.deliver-requires
-deliver-requires c =
-    let a = c.args in
-    holds_row (decode (dense a.stoppers) max_number a.b.now) c.store_row-scanned.new.row c.store_row-scanned.result c.store_row-scanned.ensures
+pub returns-in_err-count : goal.returns-in_err-count
+returns-in_err-count c =
+    let p = err_from_is_err_and c.from_residual-in_err-count.result c.from_residual-in_err-count.ensures.1 in
+    rw (p.1, p.2, ← c.in_ok-stoppers.ensures.0) (refused-read _ _ _ c.in_ok-stoppers.stoppers.legal _ _ c.in_err-count.ensures)
 
 pub returns-then-b-le64 : goal.returns-then-b-le64
-returns-then-b-le64 c =
-    delivered-read _ _ _ _ _ c.store_row-scanned.result c.deliver.result (checked (goal.at.returns-then-b-le64 c).Else-not-is_stoppers) c.store_row-scanned.ensures c.deliver.ensures
+returns-then-b-le64 c = rw (← c.in_ok-stoppers.ensures.0) (delivered-read _ _ _ c.in_ok-stoppers.stoppers.legal _ _ _ _ c.in_ok-count.ensures c.deliver.ensures.answer c.deliver.ensures.output)
 
-pub store_row-scanned-requires-2 : goal.store_row-scanned-requires-2
-store_row-scanned-requires-2 c = (stoppers-is _ (checked (goal.at.store_row-scanned-requires-2 c).Else-not-is_stoppers), omega arith, omega arith)
-
-pub deliver-requires-2 : goal.deliver-requires-2
-deliver-requires-2 c =
-    let a = c.args in
-    holds_row (decode (dense a.stoppers) max_number a.b.now) c.store_row-scanned-2.new.row c.store_row-scanned-2.result c.store_row-scanned-2.ensures
+pub returns-in_err-count-2 : goal.returns-in_err-count-2
+returns-in_err-count-2 c =
+    let p = err_from_is_err_and c.from_residual-in_err-count-2.result c.from_residual-in_err-count-2.ensures.1 in
+    rw (p.1, p.2, ← c.in_ok-stoppers.ensures.0) (refused-read _ _ _ c.in_ok-stoppers.stoppers.legal _ _ c.in_err-count-2.ensures)
 
 pub returns : goal.returns
-returns c =
-    delivered-read _ _ _ _ _ c.store_row-scanned-2.result c.deliver-2.result (checked (goal.at.returns c).Else-not-is_stoppers) c.store_row-scanned-2.ensures c.deliver-2.ensures
+returns c = rw (← c.in_ok-stoppers.ensures.0) (delivered-read _ _ _ c.in_ok-stoppers.stoppers.legal _ _ _ _ c.in_ok-count-2.ensures c.deliver-2.ensures.answer c.deliver-2.ensures.output)

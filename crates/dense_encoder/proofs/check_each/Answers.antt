@@ -1,39 +1,21 @@
-use mathlib.Core.Path.{refl, sym, ◌∙◌}
-use Prim.Native.Nat.{◌≤◌}
-use native.Mathlib.Omega.{arith}
-use lib.ListN.{length, drop_of_length-le}
+use Rattle.std.proofs.Common.{◌≡◌, rules, not, Some, None}
+use Rattle.std.proofs.lemmas.Iterator.{YieldsList-from_slice}
+use Rattle.std.proofs.lemmas.Iterator.Search.{position_from_yields_List}
+use borrow.Author.Tests.{tests}
+use Rattle.std.specs.Prelude.{position}
 use Rattle.calls.specs.declared.Refusal.TheVariants.{BadNumber}
-use Rattle.calls.specs.Calls.{accepted}
-use Rattle.calls.specs.Limits.{check_each}
-use Rattle.calls.proofs.Checks.{each_more, each-fault}
+use Rattle.calls.specs.Limits.{max_number, is_number}
+use Rattle.dense_encoder.proofs.Checking.{each-first}
 use Rattle.dense_encoder.proofs.check_each.Goals as goal
+use Rattle.dense_encoder.proofs.check_each.Goals.{After-position-first}
 
-pub loop-i-init : goal.loop-i-init
-loop-i-init c = (omega arith, refl, refl)
+-- the place that is found
+found : (c : After-position-first) → c.position-first.result ≡ position (λ n. not (is_number max_number n)) c.args.row.now
+found c =
+    position_from_yields_List (λ n. not (is_number max_number n)) _ _ _ c.position-first.ensures.ran (YieldsList-from_slice c.args.row.now cc) (λ x b q k. search (rules, tests))
 
-pub returns-then-not-is_number : goal.returns-then-not-is_number
-returns-then-not-is_number c =
-    let a = c.args in
-    let l = c.loop-i in
-    let n = c.wide in
-    let fault = sym c.is_number.ensures ∙ c.if-not-is_number.true in
-    sym (l.invariant.2 ∙ each-fault BadNumber a.limit a.row.now l.i n.result (omega arith) n.ensures (accepted (length a.row.now)) fault)
+pub returns-in-Some : goal.returns-in-Some
+returns-in-Some c = each-first BadNumber max_number c.args.row.now (Some c.in-Some.place) _ (found (goal.at.returns-in-Some c).After-position-first) c.in-Some.is
 
-pub loop-i-preserved : goal.loop-i-preserved
-loop-i-preserved c =
-    let a = c.args in
-    let l = c.loop-i in
-    let n = c.wide in
-    let legal = sym c.is_number.ensures ∙ c.if-not-is_number.false in (
-      omega arith,
-      refl,
-      l.invariant.2 ∙ each_more BadNumber a.limit a.row.now l.i n.result (omega arith) n.ensures (accepted (length a.row.now)) legal,
-    )
-
-pub returns : goal.returns
-unfolding check_each
-returns c =
-    let a = c.args in
-    let l = c.loop-i in
-    let end : length a.row.now ≤ l.i = omega arith in
-    sym (l.invariant.2 ∙ rw (drop_of_length-le a.row.now {i = l.i} end) refl)
+pub returns-in-None : goal.returns-in-None
+returns-in-None c = each-first BadNumber max_number c.args.row.now None _ (found (goal.at.returns-in-None c).After-position-first) c.in-None.is

@@ -3,7 +3,7 @@ use Rattle.dense_encoder.proofs.Putting.{Putting}
 use Rattle.dense_encoder.proofs.put_codeword.Given as goal
 
 abbrev pub invariant-loop-y : goal.invariant-loop-y
-invariant-loop-y l = Putting l.stoppers (continuers l.stoppers) l.n l.initial.out l.end l.out l.at l.y
+invariant-loop-y l = Putting l.fn.stoppers.s (continuers l.fn.stoppers.s) l.n l.fn.out l.out l.at l.y
 
 abbrev pub decreases-loop-y : goal.decreases-loop-y
 decreases-loop-y l = l.y

@@ -1,33 +1,15 @@
-use mathlib.Core.Path.{refl}
-use Prim.Native.Nat.{◌-◌}
-use native.Mathlib.Omega.{arith}
-use borrow.Author.Rules.{rules}
-use Rattle.calls.specs.Limits.{max_number}
-use Rattle.calls.proofs.Checks.{number_is, legal-at}
-use Rattle.dense.specs.Limits.{continuers}
-use Rattle.dense_encoder.proofs.Putting.{filled-start, filled-room, filled_more, filled-end}
+use Rattle.std.proofs.Common.{arith}
+use Rattle.dense_encoder.proofs.Putting.{filled-start, filled-number, filled-room, filled-more, filled-end}
 use Rattle.dense_encoder.proofs.put_row.Goals as goal
 
-pub loop-i-init : goal.loop-i-init
-loop-i-init c =
-    let a = c.args in
-    (omega arith, refl, filled-start a.stoppers (continuers a.stoppers) a.row.now a.out.now a.bytes c.requires.2 c.requires.3)
+pub loop-n-init : goal.loop-n-init
+loop-n-init c = filled-start _ _ _ _ _ c.requires.1 (cc)
 
 pub put_codeword-at-requires : goal.put_codeword-at-requires
-put_codeword-at-requires c =
-    let a = c.args in
-    let l = c.loop-i in
-    let n = number_is max_number _ (legal-at max_number a.row.now (l.i - 1) c.requires.1.1 (omega arith)) in
-    (c.requires.0, n.0, filled-room l.invariant.2 _ (omega arith) l.invariant.0 refl, omega (arith, l.invariant.1, l.invariant.2.fits))
+put_codeword-at-requires c = (filled-number c.loop-n.invariant _ _ c.in-Some.ensures.steps c.requires.0.1, filled-room c.loop-n.invariant _ _ c.in-Some.ensures.steps)
 
-pub loop-i-preserved : goal.loop-i-preserved
-loop-i-preserved c =
-    let l = c.loop-i in
-    let w = c.put_codeword-at in
-    (omega (arith, l.invariant.0), search rules, filled_more l.invariant.2 _ (omega arith) l.invariant.0 refl w.new.out w.result w.ensures)
-
-pub shape_of-out : goal.shape_of-out
-shape_of-out c = c.loop-i.invariant.1
+pub loop-n-preserved : goal.loop-n-preserved
+loop-n-preserved c = filled-more c.loop-n.invariant _ _ c.in-Some.ensures.steps _ _ c.put_codeword-at.ensures
 
 pub returns : goal.returns
-returns c = filled-end c.loop-i.invariant.2 (omega arith)
+returns c = filled-end c.loop-n.invariant (omega (arith, c.in-None.ensures.steps))

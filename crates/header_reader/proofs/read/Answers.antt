@@ -1,49 +1,30 @@
-use mathlib.Core.Path.{◌≡◌, refl, sym, ap, ◌∙◌}
-use mathlib.Core.Bool.{true}
-use mathlib.Core.List.{List}
-use Prim.Native.Nat.{ℕ}
-use native.Mathlib.Omega.{arith}
-use Rattle.calls.specs.Calls.{accepted}
-use Rattle.calls.specs.Limits.{is_order, max_number}
+use Rattle.std.proofs.Common.{refl}
+use Rattle.std.proofs.lemmas.Result.{err_from_is_err_and}
+use Rattle.calls.specs.Limits.{max_number}
 use Rattle.calls.specs.Reading.{decode}
-use Rattle.calls.proofs.Checks.{order_is, told-accepted, told-refused}
+use Rattle.calls.proofs.Checks.{told-refused}
 use Rattle.reading.specs.Reading.{fibonacci}
-use Rattle.decoder.specs.declared.Summary.{Summary}
-use Rattle.decoder.specs.Leaves.{summary, span_outcome}
-use Rattle.headers.specs.Headers.{header}
+use Rattle.word_decoder.specs.Leaves.{summary}
+use Rattle.decoder.proofs.Telling.{told_next}
 use Rattle.header_reader.specs.Reading.{read_header}
 use Rattle.header_reader.proofs.read.Goals as goal
-use Rattle.header_reader.proofs.read.Goals.{Else-not-is_order, In-Row}
 
-pub returns-then-not-is_order : goal.returns-then-not-is_order
+pub returns-in_err-order : goal.returns-in_err-order
 unfolding read_header
-returns-then-not-is_order c = rw (sym c.is_order.ensures ∙ c.if-not-is_order.true) refl
+returns-in_err-order c =
+    let p = err_from_is_err_and c.from_residual.result c.from_residual.ensures.1 in
+    rw (p.1, p.2, c.in_err-order.ensures.0, c.in_err-order.ensures.1) refl
 
--- the order has passed its check
-ordered : (c : Else-not-is_order) → is_order c.args.order ≡ true
-ordered c = sym c.is_order.ensures ∙ c.if-not-is_order.false
-
--- the row of which it was told
-row_of : (c : In-Row)
-    → let a = c.args in
-    (row : List ℕ) × (decode (fibonacci a.order) max_number a.s.now ≡ accepted row) × (c.in-Row.f ≡ summary a.order 0 0 row)
-row_of c =
-    let a = c.args in
-    told-accepted _ (summary a.order 0 0) _ (ap span_outcome (sym c.in-Row.is) ∙ c.sum_span-told.ensures)
-
-pub sum_span-told-requires : goal.sum_span-told-requires
-sum_span-told-requires c = (order_is _ (ordered c), omega arith)
-
-pub returns-in-Refused : goal.returns-in-Refused
+pub returns-in_err-told : goal.returns-in_err-told
 unfolding read_header
-returns-in-Refused c =
-    let a = c.args in
-    let why = told-refused (decode (fibonacci a.order) max_number a.s.now) (summary a.order 0 0) c.in-Refused.r (ap span_outcome (sym c.in-Refused.is) ∙ c.sum_span-told.ensures) in
-    rw (ordered (goal.at.returns-in-Refused c).Else-not-is_order, why) refl
+returns-in_err-told c =
+    let p = err_from_is_err_and c.from_residual-in_err-told.result c.from_residual-in_err-told.ensures.1 in
+    let o = c.in_ok-order in
+    let why = told-refused (decode (fibonacci o.order.m) max_number c.args.s.now) (summary o.order.m 0 0) _ c.in_err-told.ensures in
+    rw (p.1, p.2, o.ensures.1, ← o.ensures.0, why) refl
 
-pub returns-in-Row : goal.returns-in-Row
+pub returns : goal.returns
 unfolding read_header
-returns-in-Row c =
-    let r = row_of (goal.at.returns-in-Row c).In-Row in
-    ap (λ (f : Summary). accepted (header f.bits f.count f.all)) r.2
-    ∙ rw (ordered (goal.at.returns-in-Row c).Else-not-is_order, r.1) refl
+returns c =
+    let o = c.in_ok-order in
+    rw (o.ensures.1, ← o.ensures.0) (told_next _ (summary o.order.m 0 0) c.in_ok-told.told _ _ c.in_ok-told.ensures (λ row is. rw is refl))

@@ -1,11 +1,10 @@
-use mathlib.Core.Path.{◌≡◌}
-use Prim.Native.Nat.{◌-◌, ◌≤◌}
-use lib.ListN.{length}
+use Rattle.std.proofs.Common.{◌≡◌, length}
+use Rattle.std.specs.Slice.Iter.{chunks_exact_rest, chunks_exact_size}
+use Rattle.std.specs.Iterator.Adapters.{enumerate_source, enumerate_count}
 use Rattle.listing_input.proofs.Input.{Parsed}
 use Rattle.listing_input.proofs.parse.Given as goal
 
 abbrev pub invariant-loop-i : goal.invariant-loop-i
-invariant-loop-i l = (l.i ≤ l.count) × (length l.numbers ≡ 4097) × Parsed l.input l.i l.numbers
-
-abbrev pub decreases-loop-i : goal.decreases-loop-i
-decreases-loop-i l = l.count - l.i
+invariant-loop-i l =
+    let lines = enumerate_source l.i-iterator in
+    (chunks_exact_size lines ≡ 11) × (length l.numbers ≡ 4097) × Parsed l.input (enumerate_count l.i-iterator) (chunks_exact_rest lines) l.numbers

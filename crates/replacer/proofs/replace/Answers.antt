@@ -1,51 +1,27 @@
-use mathlib.Core.Path.{sym, subst}
-use Prim.Native.Nat.{ℕ}
+use mathlib.Core.Path.{sym}
 use native.Mathlib.Omega.{arith}
-use Rattle.replacer.specs.Leaves.{Plans}
-use Rattle.replacer.specs.declared.Planned.{Planned}
-use Rattle.replacer.specs.declared.Planned.TheVariants.{Put, Refused}
-use Rattle.replacer.proofs.Replacing.{Room, planned-room, replace-refused, replace-put}
+use borrow.Author.Rules.{rules}
+use Rattle.std.proofs.Math.Facts.{Fits-lt-pow}
+use Rattle.std.proofs.lemmas.Result.{err_from_is_err_and}
+use Rattle.replacer.proofs.Replacing.{planned-room, replace-refused, replace-put}
 use Rattle.replacer.proofs.replace.Goals as goal
-use Rattle.replacer.proofs.replace.Goals.{In-Put}
 
--- what was planned
-planned : (c : In-Put)
-    → let a = c.args in
-    Plans a.order a.buf.now a.used a.place a.n (Put c.in-Put.x)
-planned c =
-    let a = c.args in
-    subst (λ (n : ℕ). Plans a.order a.buf.now a.used a.place n (Put c.in-Put.x)) c.wide.ensures
-    (subst (λ (p : Planned). Plans a.order a.buf.now a.used a.place c.wide.result p) c.in-Put.is c.plan-planned.ensures)
-
--- the buffer has room for it
-room : (c : In-Put)
-    → let a = c.args in
-    let x = c.in-Put.x in
-    Room a.order a.buf.now a.used x
-room c = let a = c.args in let p = planned c in planned-room a.order a.buf.now a.used a.place a.n c.in-Put.x p.0 p.1
-
-pub overflow_add-bytes : goal.overflow_add-bytes
-overflow_add-bytes c = omega (arith, (room (goal.at.overflow_add-bytes c).In-Put).most)
+pub returns-in_err-x : goal.returns-in_err-x
+returns-in_err-x c =
+    let p = err_from_is_err_and c.from_residual.result c.from_residual.ensures.1 in
+    rw (p.1, p.2, ← c.from.ensures) (sym c.in_err-x.ensures, replace-refused _ _ _ _ _ _ c.in_err-x.ensures)
 
 pub splice-requires : goal.splice-requires
 splice-requires c =
-    let x = (planned (goal.at.splice-requires c).In-Put).1 in
-    let r = room (goal.at.splice-requires c).In-Put in
-    let end = c.most-end.ensures in
-    (omega (arith, end), omega (arith, end, r.fits, r.used_fits), omega (arith, end, r.most, r.used_most), r.some, r.in_use, x.word.3, omega (arith, x.word.4), x.word.1)
+    let e = c.in_ok-x.ensures in
+    let r = planned-room _ _ _ _ _ _ e.0 e.1 in
+    (omega arith, omega (arith, r.fits, r.used_fits), omega (arith, r.most, r.used_most), r.some, r.in_use, omega (arith, e.1.word.2))
 
-pub returns-in-Refused : goal.returns-in-Refused
-returns-in-Refused c =
-    let a = c.args in
-    let p = subst (λ (n : ℕ). Plans a.order a.buf.now a.used a.place n (Refused c.in-Refused.r)) c.wide.ensures
-    (subst (λ (p : Planned). Plans a.order a.buf.now a.used a.place c.wide.result p) c.in-Refused.is c.plan-planned.ensures) in
-    (sym p, replace-refused _ _ _ _ _ _ p)
-
-pub returns-in-Put : goal.returns-in-Put
-returns-in-Put c =
-    let a = c.args in
-    let p = planned (goal.at.returns-in-Put c).In-Put in (
-      sym p.0,
-      replace-put a.order a.buf.now a.used a.place a.n _ p.0 _ (λ i. (c.slice_known-1.given i).fits) (λ i. (c.slice_known-in-Put-1.given i).fits)
-          _ _ _ _ c.most-end.ensures p.1.start p.1.old p.1.word.0 c.splice.ensures,
+pub returns : goal.returns
+returns c =
+    let e = c.in_ok-x.ensures in
+    rw (c.bytes-bytes.ensures, ← c.from.ensures) (
+      sym e.0,
+      replace-put _ _ _ _ _ _ e.0 _ (λ i. search rules) (λ i. Fits-lt-pow (c.type_inv.buf i))
+          _ _ _ _ (rw c.bytes-bytes.ensures at c.max.ensures) e.1.start e.1.old e.1.word.0 c.splice.ensures,
     )

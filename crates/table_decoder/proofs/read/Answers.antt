@@ -1,18 +1,11 @@
-use Rattle.calls.specs.Limits.{max_number}
-use Rattle.calls.specs.Reading.{decode}
-use Rattle.reading.specs.Reading.{fibonacci}
-use Rattle.calls.proofs.Decoding.{holds_row}
-use Rattle.reading.proofs.Decoding.{delivered-read}
-use Rattle.table_decoder.proofs.Answering.{order-3, table-promise}
+use Rattle.std.proofs.lemmas.Result.{err_from_is_err_and}
+use Rattle.table_decoder.proofs.Answering.{table-row, table-refused}
 use Rattle.table_decoder.proofs.read.Goals as goal
 
-pub deliver-requires : goal.deliver-requires
-deliver-requires c =
-    let f = c.scan_into-scanned in
-    holds_row (decode (fibonacci 3) max_number c.args.s.now) f.new.row f.result f.ensures.0
+pub returns-in_err-count : goal.returns-in_err-count
+returns-in_err-count c =
+    let p = err_from_is_err_and c.from_residual.result c.from_residual.ensures.1 in
+    rw (p.1, p.2) (table-refused _ _ _ _ c.in_err-count.ensures)
 
 pub returns : goal.returns
-returns c =
-    let f = c.scan_into-scanned in
-    table-promise _ _ c.deliver.result _
-    (delivered-read 3 _ _ _ _ f.result c.deliver.result order-3 f.ensures.0 c.deliver.ensures)
+returns c = let e = c.deliver.ensures in table-row _ _ _ _ c.in_ok-count.ensures _ _ e.answer e.output

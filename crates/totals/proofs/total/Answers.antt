@@ -1,64 +1,48 @@
-use mathlib.Core.Path.{◌≡◌, refl, sym, ap, ◌∙◌}
-use mathlib.Core.Bool.{true}
-use mathlib.Core.List.{List}
-use Prim.Native.Nat.{ℕ}
-use native.Mathlib.Omega.{arith}
-use lib.ListN.{length}
+use Rattle.std.proofs.Common.{refl, length}
+use Rattle.std.proofs.lemmas.Result.{err_from_is_err_and}
 use borrow.Author.Tests.{lt-ltb, le-ltb}
-use Rattle.calls.specs.Calls.{accepted}
-use Rattle.calls.specs.Limits.{is_order, max_number}
+use Rattle.calls.specs.Limits.{max_number}
 use Rattle.calls.specs.Reading.{decode}
-use Rattle.calls.proofs.Checks.{order_is, told-accepted, told-refused}
+use Rattle.calls.proofs.Checks.{told-refused}
 use Rattle.reading.specs.Reading.{fibonacci}
-use Rattle.decoder.specs.declared.Summary.{Summary}
-use Rattle.decoder.specs.Leaves.{summary, span_outcome}
+use Rattle.word_decoder.specs.Leaves.{summary}
+use Rattle.decoder.proofs.Telling.{told_next}
 use Rattle.totals.specs.Totals.{total}
 use Rattle.totals.proofs.total.Goals as goal
-use Rattle.totals.proofs.total.Goals.{Else-not-is_order, In-Row}
 
--- the order has passed its check
-ordered : (c : Else-not-is_order) → is_order c.args.order ≡ true
-ordered c = sym c.is_order.ensures ∙ c.if-not-is_order.false
-
--- the row of which it was told
-row_of : (c : In-Row)
-    → let a = c.args in
-    (row : List ℕ) × (decode (fibonacci a.order) max_number a.s.now ≡ accepted row) × (c.in-Row.f ≡ summary a.order a.a a.b row)
-row_of c =
-    let a = c.args in
-    told-accepted _ (summary a.order a.a a.b) _ (ap span_outcome (sym c.in-Row.is) ∙ c.sum_span-told.ensures)
-
-pub returns-then-not-is_order : goal.returns-then-not-is_order
+pub returns-in_err-order : goal.returns-in_err-order
 unfolding total
-returns-then-not-is_order c = rw (sym c.is_order.ensures ∙ c.if-not-is_order.true) refl
+returns-in_err-order c =
+    let p = err_from_is_err_and c.from_residual.result c.from_residual.ensures.1 in
+    rw (p.1, p.2, c.in_err-order.ensures.0, c.in_err-order.ensures.1) refl
 
-pub sum_span-told-requires : goal.sum_span-told-requires
-sum_span-told-requires c = (order_is _ (ordered c), omega arith)
+pub returns-in_err-told : goal.returns-in_err-told
+unfolding total
+returns-in_err-told c =
+    let p = err_from_is_err_and c.from_residual-in_err-told.result c.from_residual-in_err-told.ensures.1 in
+    let o = c.in_ok-order in
+    let why = told-refused (decode (fibonacci o.order.m) max_number c.args.s.now) (summary o.order.m c.args.a c.args.b) _ c.in_err-told.ensures in
+    rw (p.1, p.2, o.ensures.1, ← o.ensures.0, why) refl
 
 pub returns-then-a-b : goal.returns-then-a-b
 unfolding total
 returns-then-a-b c =
-    rw (ordered (goal.at.returns-then-a-b c).Else-not-is_order, (row_of (goal.at.returns-then-a-b c).In-Row).1) (simp (lt-ltb _ _ c.if-a-b.true))
+    let o = c.in_ok-order in
+    rw (o.ensures.1, ← o.ensures.0)
+    (told_next _ (summary o.order.m c.args.a c.args.b) c.in_ok-told.told _ _ c.in_ok-told.ensures (λ row is. simp (lt-ltb _ _ c.if-a-b.true)))
 
-pub returns-then-b-f : goal.returns-then-b-f
+pub returns-then-b-told : goal.returns-then-b-told
 unfolding total
-returns-then-b-f c =
-    let r = row_of (goal.at.returns-then-b-f c).In-Row in
-    let a = c.args in
-    rw (ordered (goal.at.returns-then-b-f c).Else-not-is_order, r.1)
-    (simp (le-ltb _ _ c.if-a-b.false, lt-ltb (length r.0) a.b (omega (arith, ap (λ (f : Summary). f.count) r.2))))
+returns-then-b-told c =
+    let o = c.in_ok-order in
+    rw (o.ensures.1, ← o.ensures.0)
+    (told_next _ (summary o.order.m c.args.a c.args.b) c.in_ok-told.told _ _ c.in_ok-told.ensures
+    (λ row is. simp (le-ltb _ _ c.if-a-b.false, lt-ltb (length row) c.args.b (rw is at c.if-b-told.true))))
 
-pub returns-else-b-f : goal.returns-else-b-f
+pub returns : goal.returns
 unfolding total
-returns-else-b-f c =
-    let r = row_of (goal.at.returns-else-b-f c).In-Row in
-    let a = c.args in
-    ap (λ (f : Summary). accepted f.total) r.2
-    ∙ rw (ordered (goal.at.returns-else-b-f c).Else-not-is_order, r.1) (simp (le-ltb a.b a.a c.if-a-b.false, le-ltb (length r.0) a.b (omega (arith, ap (λ (f : Summary). f.count) r.2))))
-
-pub returns-in-Refused : goal.returns-in-Refused
-unfolding total
-returns-in-Refused c =
-    let a = c.args in
-    let why = told-refused (decode (fibonacci a.order) max_number a.s.now) (summary a.order a.a a.b) c.in-Refused.r (ap span_outcome (sym c.in-Refused.is) ∙ c.sum_span-told.ensures) in
-    rw (ordered (goal.at.returns-in-Refused c).Else-not-is_order, why) refl
+returns c =
+    let o = c.in_ok-order in
+    rw (o.ensures.1, ← o.ensures.0)
+    (told_next _ (summary o.order.m c.args.a c.args.b) c.in_ok-told.told _ _ c.in_ok-told.ensures
+    (λ row is. simp (le-ltb _ _ c.if-a-b.false, le-ltb (length row) c.args.b (rw is at c.if-b-told.false)) (rw is refl)))

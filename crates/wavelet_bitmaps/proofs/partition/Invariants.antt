@@ -1,6 +1,3 @@
-use mathlib.Core.Path.{◌≡◌}
-use Prim.Native.Nat.{◌-◌}
-use lib.ListN.{length}
 use Rattle.bits.specs.Bits.{unpack}
 use Rattle.wavelet_bitmaps.specs.Leaves.{bit_after}
 use Rattle.wavelet_bitmaps.proofs.Partitioning.{Partition}
@@ -8,8 +5,4 @@ use Rattle.wavelet_bitmaps.proofs.partition.Given as goal
 
 abbrev pub invariant-loop-i : goal.invariant-loop-i
 invariant-loop-i l =
-    Partition (bit_after l.depth) l.initial.words l.words l.spare (l.i - l.ones) l.ones l.i l.at (unpack l.initial.out) (unpack l.out)
-    × (l.i-end ≡ length l.initial.words) × (length l.spare ≡ length l.initial.spare) × (length l.out ≡ length l.initial.out)
-
-abbrev pub decreases-loop-i : goal.decreases-loop-i
-decreases-loop-i l = l.i-end - l.i
+    Partition (bit_after l.depth) l.initial.words l.words l.spare l.ones l.i l.at (unpack l.initial.out) (unpack l.out)

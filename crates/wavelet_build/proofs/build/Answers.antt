@@ -1,35 +1,31 @@
-use mathlib.Core.Path.{◌≡◌, sym, ap, ◌∙◌}
-use native.Mathlib.Omega.{arith}
-use lib.ListN.{length, take, replicate, length-take}
+use Rattle.std.proofs.Common.{arith, ◌≡◌, ◌≤◌, length, take, replicate, sym}
+use Rattle.std.proofs.Math.Facts.{Fits-lt-pow}
+use Rattle.std.proofs.lemmas.Result.{err_from_is_err_and}
 use lib.Seq.{sets, length-take-le}
-use Rattle.bits.specs.Bits.{unpack}
-use Rattle.calls.proofs.Checks.{positive, each-accepted}
-use Rattle.calls.specs.declared.Refusal.TheVariants.{OutsideAlphabet}
-use Rattle.calls.specs.Calls.{accepted, count_outcome}
+use Rattle.bits.specs.Bits.{unpack, byte_count}
+use Rattle.calls.proofs.Checks.{positive}
 use Rattle.calls.specs.Limits.{Legal}
-use Rattle.codes.specs.Rows.{Positive}
 use Rattle.wavelet.specs.Bitmaps.{bitmaps}
-use Rattle.wavelet.specs.Leaves.{Passed, max_index_bytes}
-use Rattle.wavelet.proofs.Answering.{tree-passed, legal-order, legal-alphabet}
+use Rattle.wavelet.specs.Leaves.{max_index_bytes}
 use Rattle.wavelet_bitmaps.specs.Leaves.{AllAligned}
+use Rattle.wavelet_build.proofs.Filling.{filled_is}
 use Rattle.wavelet_build.proofs.Building.{build-refused, build-number, build-room, build-done}
 use Rattle.wavelet_build.proofs.build.Goals as goal
-use Rattle.wavelet_build.proofs.build.Goals.{After-write_bitmaps-bits, In_default, In_default-filled}
+use Rattle.wavelet_build.proofs.build.Goals.{In_ok-numbers, After-write_bitmaps-bits}
 
--- the order, the alphabet and the length are legal
-passed : (c : In_default) → Passed c.args.order c.args.alphabet (length c.args.row.now)
-passed c = tree-passed _ _ _ (sym (ap count_outcome c.in_default.is) ∙ c.check-checked.ensures)
+-- the numbers are legal, and the words have their codewords
+filled : (c : In_ok-numbers)
+    → let row = c.args.row.now in
+    (c.in_ok-numbers.numbers ≡ length row) × Legal c.in_ok-tree.tree.limit row
+    × AllAligned c.in_ok-tree.tree.order.m row (take c.in_ok-numbers.numbers c.fill.new.words)
+filled c = filled_is _ _ _ _ _ c.in_ok-numbers.ensures
 
--- each number is legal
-numbers : (c : In_default-filled) → Legal c.args.alphabet c.args.row.now
-numbers c =
-    let a = c.args in
-    (each-accepted OutsideAlphabet a.alphabet 0 a.row.now (accepted (length a.row.now)) _ (
-    sym c.fill-filled.ensures.0 ∙ ap count_outcome c.in_default-filled.is)).0
+legal : (c : In_ok-numbers) → Legal c.args.alphabet c.args.row.now
+legal c = rw (← c.in_ok-tree.ensures.1) (filled c).1
 
--- so the words have their codewords
-aligned : (c : In_default-filled) → Positive c.args.row.now × AllAligned c.args.order c.args.row.now (take (length c.args.row.now) c.fill-filled.new.words)
-aligned c = (positive c.args.alphabet c.args.row.now (numbers c), c.fill-filled.ensures.1 _ (ap count_outcome c.in_default-filled.is))
+-- the row fits the words
+within : (c : In_ok-numbers) → c.in_ok-numbers.numbers ≤ length c.fill.new.words
+within c = omega (arith, (filled c).0, c.in_ok-tree.ensures.2.count, c.fill.auto.words)
 
 -- the bitmaps are written
 built : (c : After-write_bitmaps-bits)
@@ -37,65 +33,40 @@ built : (c : After-write_bitmaps-bits)
     (c.write_bitmaps-bits.result ≡ length (bitmaps a.order a.alphabet a.row.now))
     × (unpack c.write_bitmaps-bits.new.out ≡ sets (unpack (replicate max_index_bytes 0)) 0 (bitmaps a.order a.alphabet a.row.now))
 built c =
-    let d = aligned (goal.at.After-write_bitmaps-bits c).In_default-filled in
-    c.write_bitmaps-bits.ensures.1 c.args.row.now d.0 d.1
+    let d = filled (goal.at.After-write_bitmaps-bits c).In_ok-numbers in
+    rw (← c.in_ok-tree.ensures.0, ← c.in_ok-tree.ensures.1) (c.write_bitmaps-bits.ensures.written c.args.row.now (positive _ _ d.1) d.2)
 
-pub returns-in-Refused : goal.returns-in-Refused
-returns-in-Refused c =
-    let a = c.args in
-    build-refused a.order a.alphabet a.row.now a.out.now c.in-Refused.r
-    (sym (ap count_outcome c.in-Refused.is) ∙ c.check-checked.ensures)
+pub returns-in_err-tree : goal.returns-in_err-tree
+returns-in_err-tree c =
+    let p = err_from_is_err_and c.from_residual.result c.from_residual.ensures.1 in
+    rw (p.1, p.2) (build-refused _ _ _ _ _ c.in_err-tree.ensures)
 
-pub positions-positions-requires : goal.positions-positions-requires
-positions-positions-requires c = legal-order (passed (goal.at.positions-positions-requires c).In_default)
-
-pub fill-filled-requires : goal.fill-filled-requires
-fill-filled-requires c =
-    let p = passed (goal.at.fill-filled-requires c).In_default in
-    (c.positions-positions.ensures, (legal-alphabet p).1, p.count)
-
-pub returns-in-Refused-filled : goal.returns-in-Refused-filled
-returns-in-Refused-filled c =
-    let a = c.args in
-    build-number a.order a.alphabet a.row.now a.out.now (passed (goal.at.returns-in-Refused-filled c).In_default) _
-    (sym (ap count_outcome c.in-Refused-filled.is) ∙ c.fill-filled.ensures.0)
+pub returns-in_err-numbers : goal.returns-in_err-numbers
+returns-in_err-numbers c =
+    let p = err_from_is_err_and c.from_residual-in_err-numbers.result c.from_residual-in_err-numbers.ensures.1 in
+    let t = c.in_ok-tree.ensures in
+    rw (p.1, p.2) (build-number _ _ _ _ t.2 _ (rw (← t.1) c.in_err-numbers.ensures.0))
 
 pub slice_bounds-words-end : goal.slice_bounds-words-end
-slice_bounds-words-end c = omega (arith, (passed (goal.at.slice_bounds-words-end c).In_default).count, c.fill-filled.auto.words)
+slice_bounds-words-end c = within c
 
 pub slice_bounds-write_bitmaps-end : goal.slice_bounds-write_bitmaps-end
-slice_bounds-write_bitmaps-end c =
-    sym (length-take-le _ _ (omega (arith, (passed (goal.at.slice_bounds-write_bitmaps-end c).In_default).count, c.fill-filled.auto.words)))
+slice_bounds-write_bitmaps-end c = sym (length-take-le _ _ (within (goal.at.slice_bounds-write_bitmaps-end c).In_ok-numbers))
 
-pub write_bitmaps-bits-requires : goal.write_bitmaps-bits-requires
-write_bitmaps-bits-requires c =
-    let p = passed (goal.at.write_bitmaps-bits-requires c).In_default in
-    let d = aligned (goal.at.write_bitmaps-bits-requires c).In_default-filled in
-    let k = length c.args.row.now in (
-      c.positions-positions.ensures,
-      record { order = p.order; alphabet = p.alphabet; count = omega (arith, p.count, length-take k c.fill-filled.new.words) },
-      omega arith,
-      (c.args.row.now, d.0, d.1),
-    )
-
-pub overflow_add-count : goal.overflow_add-count
-overflow_add-count c = omega (arith, c.write_bitmaps-bits.ensures.0)
+pub write_bitmaps-bits-requires-clause-row : goal.write_bitmaps-bits-requires-clause-row
+write_bitmaps-bits-requires-clause-row c =
+    let d = filled (goal.at.write_bitmaps-bits-requires-clause-row c).In_ok-numbers in
+    (c.args.row.now, positive _ _ d.1, d.2)
 
 pub returns-then-out-count : goal.returns-then-out-count
 returns-then-out-count c =
     let e = goal.at.returns-then-out-count c in
-    let a = c.args in
-    build-room a.order a.alphabet a.row.now a.out.now (passed e.In_default) (numbers e.In_default-filled)
-    c.write_bitmaps-bits.result (built e.After-write_bitmaps-bits).0 c.if-out-count.true
-
-pub copy_bytes-requires : goal.copy_bytes-requires
-copy_bytes-requires c = (omega (arith, c.write_bitmaps-bits.ensures.0, c.write_bitmaps-bits.auto.out), omega arith)
+    build-room _ _ _ _ c.in_ok-tree.ensures.2 (legal e.In_ok-numbers) c.write_bitmaps-bits.result (built e.After-write_bitmaps-bits).0 (omega arith)
 
 pub returns : goal.returns
 returns c =
     let e = goal.at.returns c in
-    let a = c.args in
     let b = built e.After-write_bitmaps-bits in
-    build-done a.order a.alphabet a.row.now a.out.now (passed e.In_default) (numbers e.In_default-filled) c.write_bitmaps-bits.result b.0
-    max_index_bytes c.write_bitmaps-bits.new.out _ c.write_bitmaps-bits.ensures.0 b.1 (omega arith)
-    c.copy_bytes.ensures (λ i. (c.type_inv.out i).fits)
+    let n : c.div_ceil-count.result ≡ byte_count c.write_bitmaps-bits.result = omega arith in
+    build-done _ _ _ _ c.in_ok-tree.ensures.2 (legal e.In_ok-numbers) c.write_bitmaps-bits.result b.0 max_index_bytes c.write_bitmaps-bits.new.out _
+    c.write_bitmaps-bits.ensures.within b.1 (omega arith) (rw n at c.copy.ensures) (λ i. Fits-lt-pow (c.type_inv.out i))

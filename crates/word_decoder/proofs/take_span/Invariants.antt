@@ -1,12 +1,15 @@
-use Prim.Native.Nat.{◌-◌}
+use Rattle.std.proofs.Common.{◌≡◌, ◌-◌}
 use Rattle.bits.specs.Bits.{unpack}
 use Rattle.calls.specs.Limits.{max_count}
 use Rattle.word_decoder.specs.Leaves.{Spanned}
 use Rattle.word_decoder.proofs.take_span.Given as goal
 
-abbrev pub invariant-loop-count : goal.invariant-loop-count
-invariant-loop-count l =
-    Spanned l.order l.limit l.from l.to (unpack l.s) (record { bit = l.bit; count = l.count; sum = l.sum; all = l.all; start = l.start })
+abbrev pub invariant-loop-told : goal.invariant-loop-told
+invariant-loop-told l = record {
+  same : l.cursor.encoding ≡ l.encoding;
+  at : l.cursor.bit ≡ l.told.bits;
+  spanned : Spanned l.encoding.order.m l.encoding.limit l.span.from l.span.to (unpack l.encoding.bytes.now) l.told;
+}
 
-abbrev pub decreases-loop-count : goal.decreases-loop-count
-decreases-loop-count l = max_count - l.count
+abbrev pub decreases-loop-told : goal.decreases-loop-told
+decreases-loop-told l = max_count - l.told.count

@@ -1,7 +1,7 @@
-use mathlib.Core.Path.{◌≡◌, sym, ap, ◌∙◌}
-use Prim.Native.Nat.{ℕ, ◌+◌, ◌≤◌, ◌<◌, ◌*◌, ◌/◌, ◌%◌, ◌^◌}
+use mathlib.Core.Path.{◌≡◌, refl, sym, ap, ◌∙◌}
+use Prim.Native.Nat.{ℕ, ◌+◌, ◌-◌, ◌≤◌, ◌<◌, ◌*◌, ◌/◌, ◌%◌, ◌^◌}
 use native.Mathlib.Omega.{arith}
-use lib.Bits.{bit_and, and_le_l, and_mask}
+use lib.Bits.{bit_and, and_le_l}
 use Rattle.bits.specs.Bits.{word_bits}
 use Rattle.bits.proofs.Words.{words-length}
 use Rattle.word_windows.specs.Leaves.{run_starts, RunStarts}
@@ -15,27 +15,18 @@ joined w j k m x e p h l is = (
   omega (arith, and_le_l x (x * 2 ^ k % 2 ^ 64), e.1),
 )
 
-pair : (w : ℕ) → w < 2 ^ 64 → RunStarts 2 w (bit_and w (w * 2 ^ 1 % 2 ^ 64))
-pair w h = joined w 1 1 2 w (sym (starts-one (word_bits 64 w)), h) (omega arith) (omega arith) (omega arith) (omega arith)
+pair : (w m : ℕ) → w < 2 ^ 64 → m ≡ 2 → RunStarts m w (bit_and w (w * 2 ^ 1 % 2 ^ 64))
+pair w m h e = joined w 1 1 m w (sym (starts-one (word_bits 64 w)), h) (omega arith) (omega arith) (omega arith) (omega arith)
 
-pub returns-then-order-eq2 : goal.returns-then-order-eq2
-returns-then-order-eq2 c =
-    let a = c.args in
-    let two = pair a.w c.ranges.w.fits in
-    (two.0 ∙ ap (λ (m : ℕ). run_starts m (word_bits 64 a.w)) (sym c.if-order-eq2.true), two.1)
+pub returns-then-m-eq2 : goal.returns-then-m-eq2
+returns-then-m-eq2 c = pair c.args.w c.args.order.m c.ranges.w.fits (omega arith)
 
-pub returns-then-order-le4 : goal.returns-then-order-le4
-returns-then-order-le4 c =
-    let a = c.args in
-    let k : a.order / 2 ^ 1 + 2 ≡ a.order = omega arith in
-    joined a.w 2 (a.order / 2 ^ 1) a.order _ (pair a.w c.ranges.w.fits) (omega arith) (omega arith) (omega arith) (omega arith)
-
-pub overflow_shl-result-2 : goal.overflow_shl-result-2
-overflow_shl-result-2 c = omega (arith, and_mask c.args.order 2)
+pub returns-then-m-le4 : goal.returns-then-m-le4
+returns-then-m-le4 c =
+    joined c.args.w 2 (c.m-m.result / 2) c.args.order.m _ (pair c.args.w 2 c.ranges.w.fits refl) (omega arith) (omega arith) (omega arith) (omega arith)
 
 pub returns : goal.returns
 returns c =
-    let a = c.args in
-    let k : bit_and a.order 3 + 4 ≡ a.order = omega (arith, and_mask a.order 2) in
-    let four = joined a.w 2 2 4 _ (pair a.w c.ranges.w.fits) (omega arith) (omega arith) (omega arith) (omega arith) in
-    joined a.w 4 (bit_and a.order 3) a.order _ four (omega arith) (omega arith) (omega arith) (omega arith)
+    let w = c.args.w in
+    let four = joined w 2 2 4 _ (pair w 2 c.ranges.w.fits refl) (omega arith) (omega arith) (omega arith) refl in
+    joined w 4 (c.m-m.result - 4) c.args.order.m _ four (omega arith) (omega arith) (omega arith) (omega arith)

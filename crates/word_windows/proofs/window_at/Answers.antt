@@ -12,16 +12,13 @@ returns-then-s-q c =
     record {
       window = window-none (unpack a.s.now) a.bit (omega (arith, unpack-length a.s.now));
       whole = λ h. absurd (omega (arith, unpack-length a.s.now));
-      starts_are = (starts_none a.order 64 (omega arith), omega arith);
+      starts_are = (starts_none a.order.m 64 (omega arith), omega arith);
     }
-
-pub overflow_shl-left : goal.overflow_shl-left
-overflow_shl-left c = omega (arith, and_mask c.args.bit 3)
 
 pub returns : goal.returns
 returns c =
     let a = c.args in
-    let (full, some) = window-load a.s.now a.bit (bit_and a.bit 7) c.word.result (and_mask a.bit 3) (omega arith) c.word.ensures in
+    let (full, some) = window-load a.s.now a.bit (bit_and a.bit 7) c.word_at.result (and_mask a.bit 3) (omega arith) c.word_at.ensures in
     record {
       window = full;
       whole = λ h. some;

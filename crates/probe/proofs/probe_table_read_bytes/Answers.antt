@@ -1,8 +1,0 @@
-use Rattle.answers.specs.Leaves.{single}
-use Rattle.probe.proofs.Telling.{tells}
-use Rattle.probe.proofs.probe_table_read_bytes.Goals as goal
-
-pub returns-clause-answer_after : goal.returns-clause-answer_after
-returns-clause-answer_after c =
-    let a = c.args in
-    tells single a.answer.now _ c.of_count.result c.tell.ensures c.of_count.ensures c.read_bytes.ensures.0
