@@ -2,7 +2,7 @@
 // the last parameter, as far as that has room: the papers' answer number, the place, and four results, which are zeros where there are none.
 #![tactic(auto)]
 
-ghost use Rattle.std.specs.Prelude.{◌≡◌, length, set};
+ghost use Rattle.std.specs.Prelude.{◌≡◌, length};
 ghost use Rattle.std.proofs.lemmas.List.Edits.{sets};
 ghost use Rattle.reading.specs.Reading.{read, read_into};
 ghost use Rattle.totals.specs.Totals.{total, repeated_total};
@@ -21,25 +21,13 @@ ghost use Rattle.probe.specs.Leaves.{told};
 
 use answers::Answer;
 
-// Element i becomes x; where i is past the end, nothing changes.
-fn store(list: &mut [u64], i: usize, x: u64)
-    ensures { list.new ≡ set list.old i x }
-{
-    if i < list.len() {
-        list[i] = x;
-    }
-}
-
 // The six numbers from the front of a list, as far as it has room.
 fn tell(answer: &mut [u64], a: Answer)
     ensures { answer.new ≡ sets answer.old 0 (values a) }
 {
-    store(answer, 0, a.number);
-    store(answer, 1, a.place);
-    store(answer, 2, a.first);
-    store(answer, 3, a.second);
-    store(answer, 4, a.third);
-    store(answer, 5, a.fourth);
+    let six = [a.number, a.place, a.first, a.second, a.third, a.fourth];
+    let n = answer.len().min(six.len());
+    answer[..n].copy_from_slice(&six[..n]);
 }
 
 #[unsafe(no_mangle)]
