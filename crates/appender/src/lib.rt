@@ -20,7 +20,7 @@ fn plan(order: Order, room: usize, header: Header, n: u64) -> Result<(Word, Head
     if header.is_bad(room) {
         return Err(Refusal::BadHeader);
     }
-    if !calls::is_number(n, calls::MAX_NUMBER) {
+    if !calls::is_number(n, u64::from(calls::MAX_NUMBER)) {
         return Err(Refusal::BadNumber(0));
     }
     if header.count >= calls::MAX_COUNT {

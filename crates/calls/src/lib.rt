@@ -137,10 +137,10 @@ pub fn is_order(order: usize) -> bool
 
 // The check of a number, in a row whose numbers go up to a limit.
 #[tactic(auto, unfolding(crate::specs::Limits::is_number))]
-pub fn is_number(n: u64, limit: u32) -> bool
+pub fn is_number(n: u64, limit: u64) -> bool
     ensures { result ≡ is_number limit n }
 {
-    1 <= n && n <= u64::from(limit)
+    1 <= n && n <= limit
 }
 
 // The row that a reader's scan has stored in a list of its own goes to the output, if that has room.

@@ -47,7 +47,7 @@ fn next_number(
                 return Err(Refusal::TooManyCodewords);
             }
             let n = reading::number(encoding.order, len, val);
-            if !calls::is_number(n, encoding.limit) {
+            if !calls::is_number(n, u64::from(encoding.limit)) {
                 return Err(Refusal::TooLarge(count));
             }
             Ok(Some((n, after)))

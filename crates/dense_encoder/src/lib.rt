@@ -21,7 +21,7 @@ fn check_each(row: &[u32]) -> Result<(), Refusal>
 {
     let first = row
         .iter()
-        .position(|&n| !calls::is_number(u64::from(n), calls::MAX_NUMBER));
+        .position(|&n| !calls::is_number(u64::from(n), u64::from(calls::MAX_NUMBER)));
     match first {
         Some(place) => Err(Refusal::BadNumber(place)),
         None => Ok(()),

@@ -20,7 +20,7 @@ fn measure(order: Order, row: &[u32]) -> Result<Header, Refusal>
     let mut total: u64 = 0;
     for (i, &n) in row.iter().enumerate() {
         let n = u64::from(n);
-        if !calls::is_number(n, calls::MAX_NUMBER) {
+        if !calls::is_number(n, u64::from(calls::MAX_NUMBER)) {
             return Err(Refusal::BadNumber(i));
         }
         bits += codewords::bit_length(order, n);

@@ -38,7 +38,7 @@ fn plan(order: usize, buf: &[u8], used: usize, place: usize, n: u64) -> Result<R
     if place >= told.count {
         return Err(Refusal::BadPlace);
     }
-    if !calls::is_number(n, calls::MAX_NUMBER) {
+    if !calls::is_number(n, u64::from(calls::MAX_NUMBER)) {
         return Err(Refusal::BadNumber(0));
     }
     let old = codewords::bit_length(order, told.total);

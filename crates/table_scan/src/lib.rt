@@ -56,7 +56,7 @@ fn judge(place: usize, first: u64, second: u32, third: u32, limit: u32) -> Resul
     requires { place ≤ max_count }
     ensures { result ≡ judged place (is_number limit first) second third limit }
 {
-    if !calls::is_number(first, limit) {
+    if !calls::is_number(first, u64::from(limit)) {
         return Err(fault(place));
     }
     if second > limit {

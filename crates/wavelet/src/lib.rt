@@ -57,7 +57,7 @@ impl Tree {
         ensures { MatchResult result (λ t. (t.order.m ≡ order) × (t.limit ≡ alphabet) × Passed order alphabet len) (λ r. check_tree order alphabet len (Ok alphabet) ≡ Err r) }
     {
         let order = Order::new(order)?;
-        if !calls::is_number(u64::from(alphabet), MAX_ALPHABET) {
+        if !calls::is_number(u64::from(alphabet), u64::from(MAX_ALPHABET)) {
             return Err(Refusal::BadAlphabet);
         }
         if len > calls::MAX_COUNT {
@@ -119,7 +119,7 @@ impl Tree {
     pub fn target_codeword(self, n: u64) -> u32
         ensures { is_number self.limit n ≡ true → Aligned self.order.m n result }
     {
-        if !calls::is_number(n, self.limit) {
+        if !calls::is_number(n, u64::from(self.limit)) {
             return 0;
         }
         self.aligned_codeword(n)

@@ -18,7 +18,7 @@ fn fill(tree: Tree, row: &[u32], words: &mut [u32]) -> Result<usize, Refusal>
 {
     for (i, &n) in row.iter().enumerate() {
         let n = u64::from(n);
-        if !calls::is_number(n, tree.limit) {
+        if !calls::is_number(n, u64::from(tree.limit)) {
             return Err(Refusal::OutsideAlphabet(i));
         }
         words[i] = tree.aligned_codeword(n);

@@ -13,7 +13,7 @@ use wavelet_walk::Question;
 fn check_number(alphabet: u32, n: u32) -> Result<(), Refusal>
     ensures { MatchResult result (λ _. is_number alphabet n ≡ true) (λ r. (r ≡ OutsideAlphabet 0) × (is_number alphabet n ≡ false)) }
 {
-    if calls::is_number(u64::from(n), alphabet) {
+    if calls::is_number(u64::from(n), u64::from(alphabet)) {
         Ok(())
     } else {
         Err(Refusal::OutsideAlphabet(0))

@@ -156,7 +156,7 @@ impl<'a> Cursor<'a> {
             len: window.starts.leading_zeros() as usize,
         };
         let n = word_windows::number(order, body);
-        if !calls::is_number(n, self.encoding.limit) {
+        if !calls::is_number(n, u64::from(self.encoding.limit)) {
             return None;
         }
         let size = body.len + order.m();
