@@ -6,5 +6,5 @@ use Rattle.bit_decoder.proofs.seek.Given as goal
 abbrev pub invariant-loop-k : goal.invariant-loop-k
 invariant-loop-k l = record {
   few : l.run < l.order.m;
-  seeking : Seeking l.order.m (unpack l.s.now) l.from l.k l.len l.val l.run;
+  seeking : Seeking l.order.m (unpack l.s) l.from l.k l.len l.val l.run;
 }
