@@ -6,7 +6,7 @@ use Prim.Native.Nat.{ℕ, ◌≤◌, ◌<◌}
 use native.Mathlib.Omega.{arith}
 use lib.Dec.{leb, ltb}
 use lib.ListN.{length}
-use borrow.Author.Tests.{le-leb, lt-leb, leb-false, le-ltb, ltb-false, not-false}
+use borrow.Author.Tests.{le-leb, lt-leb, leb-false, le-ltb, lt-ltb, ltb-false, not-false}
 use Rattle.bits.specs.Bits.{Bytes, byte_count, unpack}
 use Rattle.bits.specs.Leaves.{put_at}
 use Rattle.bits.proofs.Put.{put-packed}
