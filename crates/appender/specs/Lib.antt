@@ -1,1 +1,2 @@
 pub mod Appending
+pub mod Leaves

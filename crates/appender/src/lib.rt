@@ -1,10 +1,8 @@
 // Appending a number to an encoding of order 2 to 6, by its header.
 #![tactic(auto)]
 
-ghost use Rattle.std.specs.Prelude.{◌≡◌, MatchResult};
-ghost use Rattle.bits.specs.Bits.{byte_count};
-ghost use Rattle.codewords.specs.Leaves.{Codes};
-ghost use Rattle.appender.specs.Appending.{append, AppendPromise};
+ghost use Rattle.appender.specs.Appending.{AppendPromise};
+ghost use Rattle.appender.specs.Leaves.{Plans};
 
 use bits::Word;
 use calls::Refusal;
@@ -14,8 +12,7 @@ use headers::Header;
 // All that is decided before a buffer of so many bytes may be touched: the codeword to be put after the bits in use, and the header afterwards.
 #[tactic(auto, using(crate::proofs::Appending::checks), unfolding(crate::specs::Appending::append))]
 fn plan(order: Order, room: usize, header: Header, n: u64) -> Result<(Word, Header), Refusal>
-    ensures { let outcome = append order.m room header n in
-        MatchResult result (λ x. (outcome ≡ Ok (byte_count x.1.bits, x.1)) × Codes order.m n x.0) (λ r. outcome ≡ Err r) }
+    ensures { Plans order.m room header n result }
 {
     if header.is_bad(room) {
         return Err(Refusal::BadHeader);

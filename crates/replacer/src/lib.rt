@@ -1,11 +1,9 @@
 // Replacing a number of an encoding of order 2 to 6, in its buffer; and seeing what comes of it before that.
 #![tactic(auto)]
 
-ghost use Rattle.std.specs.Prelude.{◌≡◌, MatchResult, take};
-ghost use Rattle.bits.specs.Bits.{unpack, byte_count};
-ghost use Rattle.fibonacci.specs.Encoding.{numbers};
-ghost use Rattle.replacer.specs.Replacing.{replace, ReplacePromise, preview};
-ghost use Rattle.replacer.specs.Leaves.{Puts};
+ghost use Rattle.std.specs.Prelude.{◌≡◌};
+ghost use Rattle.replacer.specs.Replacing.{ReplacePromise, preview};
+ghost use Rattle.replacer.specs.Leaves.{Plans};
 
 use bits::Word;
 use calls::Refusal;
@@ -24,10 +22,7 @@ struct Replacement {
 // The plan for a number in the place of another of the encoding in the first `used` bytes of a buffer: all that is decided before the buffer may be touched.
 // (The span to be summed is the one place; where a row has no such place, any will do.)
 fn plan(order: usize, buf: &[u8], used: usize, place: usize, n: u64) -> Result<Replacement, Refusal>
-    ensures { let outcome = replace order buf.now used place n in
-        MatchResult result
-        (λ x. (outcome ≡ Ok (byte_count x.header.bits, x.header)) × Puts order (numbers order (unpack (take used buf.now))) place n x)
-        (λ r. outcome ≡ Err r) }
+    ensures { Plans order buf.now used place n result }
 {
     let order = Order::new(order)?;
     if used > buf.len() {
