@@ -16,7 +16,7 @@ use Rattle.bits.proofs.Words.{words-length}
 use Rattle.bits.proofs.Bytes.{unpack-append, unpack-length, unpack-drop}
 use Rattle.bits.proofs.Fit.{fit-short, fit-split, fit-take, fit-behind}
 use Rattle.bits.proofs.Put.{word_bytes, unpack-word}
-use Rattle.bit_moves.specs.Splices.{stream, Moved}
+use Rattle.bit_moves.specs.Leaves.{stream, Moved}
 use Rattle.bit_moves.proofs.Words.{words-top, word_read}
 
 -- where two buffers agree from byte i on, so do their bytes in use from any later byte on

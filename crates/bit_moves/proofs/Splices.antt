@@ -13,7 +13,8 @@ use Rattle.bits.proofs.Words.{words-length, words-split, words-mod}
 use Rattle.bits.proofs.Bytes.{unpack-append, unpack-take, unpack-drop, first-bits}
 use Rattle.bits.proofs.Fit.{fit-long, fit-zeros}
 use Rattle.bits.proofs.Packing.{unpack-pack, pack-length, pack-bytes, bytes-append, bytes_drop, unpack-apart}
-use Rattle.bit_moves.specs.Splices.{splice, stream, Moved}
+use Rattle.bit_moves.specs.Splices.{splice}
+use Rattle.bit_moves.specs.Leaves.{stream, Moved}
 use Rattle.bit_moves.proofs.Words.{unpack-zeros, zeros-bytes}
 
 -- ## What is to be moved

@@ -10,10 +10,10 @@ use borrow.Author.Tests.{lt-ltb, le-ltb, ltb-false, not-false}
 use Rattle.lists.specs.Lists.{All}
 use Rattle.calls.specs.declared.Refusal.{Refusal}
 use Rattle.calls.specs.declared.Refusal.TheVariants.{TooManyBytes, TooManyCodewords, NoRoom, TooLarge}
-use Rattle.calls.specs.Calls.{Outcome, check, and_then, buffer}
+use Rattle.calls.specs.Calls.{Outcome, answer_results, check, and_then, buffer}
 use Rattle.calls.specs.Limits.{Legal, max_count}
 use Rattle.calls.specs.Reading.{Code, contents, decode, counted}
-use Rattle.calls.specs.Leaves.{Scanned}
+use Rattle.calls.specs.Leaves.{Scanned, Delivers}
 use Rattle.calls.proofs.Checks.{not-both, accepted-one, refused-same, check-passed, then-passed}
 use Rattle.calls.proofs.Finished.{finished-all, finished-many, finished-large, finished-past, finished-passed}
 use Rattle.std.specs.Prelude.{Ok, Err}
@@ -96,6 +96,12 @@ pub scan-refused : (d : Outcome (List ℕ)) (list : List ℕ) (r : Refusal) → 
 scan-refused (Ok row) list r s = absurd (not-both s.0)
 scan-refused (Err q) list r s = sym (refused-same s.0)
 
+-- what is handed over is as much of the list as was counted
+kept-as : (t : Bool) (n : ℕ) (list before : List ℕ) (a : Outcome ℕ) → a ≡ check NoRoom t (Ok n)
+    → buffer a (take (answer_results 0 a) list) before ≡ buffer a (take n list) before
+kept-as true n list before a e = rw e refl
+kept-as false n list before a e = rw e refl
+
 -- ## A call that checks what it was asked for, and reads
 
 -- `good` is its check, which is refused as r
@@ -135,6 +141,18 @@ module _ (r : Refusal) (good : Bool) (c : Code) (limit : ℕ) (s : List ℕ) whe
       -- .. and so is its refusal
       pub called-scan : (list : List ℕ) (q : Refusal) → Scanned (decode c limit s) (Err q) list → (Err q ≡ called (length before)) × (before ≡ leaves before)
       called-scan list q f = rw (g, scan-refused _ list q f) (refl, refl)
+
+      -- .. so whatever a scan answers, what is handed over of its list is what reading answers and leaves
+      pub called-delivers : (list after : List ℕ) (scanned a : Outcome ℕ) → Scanned (decode c limit s) scanned list → Delivers scanned list before a after
+          → (a ≡ called (length before)) × (after ≡ leaves before)
+      called-delivers list after (Ok n) a f w =
+          let long : n ≡ length (take n list) = (stored_row _ list n f).1 in
+          let same : a ≡ counted (length before) (take n list) = w.0 ∙ ap (λ (k : ℕ). check NoRoom (ltb (length before) k) (Ok k)) long in
+          called-delivered list after n a f same (w.1 ∙ kept-as (ltb (length before) n) n list before a w.0)
+      called-delivers list after (Err q) a f w =
+          let e = called-scan list q f in
+          let none : buffer a (take (answer_results 0 a) list) before ≡ before = rw w.0 refl in
+          (w.0 ∙ e.0, w.1 ∙ none ∙ e.1)
 
   -- what is accepted is the numbers of the code, and their count
   pub called-returns : All (λ n. 1 ≤ n) (c.numbers s) → (before : List ℕ) (n : ℕ) → called (length before) ≡ Ok n

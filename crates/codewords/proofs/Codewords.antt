@@ -262,38 +262,43 @@ low-within m j x o h l =
 -- ## The word
 
 -- the low digits, shifted up and then down again, end up before those above them
-module _ (m n d left w : ℕ) (o : Order m) (b : HighDigits m n d (min d (low_count m)) left w) where
+module _ (m n d t left w : ℕ) (o : Order m) (long : d + m ≤ 47) (few : t ≤ 8) (b : HighDigits m n d (min d t) left w) where
   stop : ℕ
-  stop = min d (low_count m)
+  stop = min d t
 
   below : ℕ
   below = m + (d - stop)
 
-  moved : (t len : ℕ) → t ≡ low_count m → t ≤ 8 → len ≡ d + m → len ≤ 47 → low_word m t left * 2 ^ len % 2 ^ 64 / 2 ^ t ≡ low_word m stop left * 2 ^ below
+  moved : low_word m t left * 2 ^ (d + m) % 2 ^ 64 / 2 ^ t ≡ low_word m stop left * 2 ^ below
   unfolding stop below
-  moved t len q few l short =
-      let k : t ≡ stop + (t - stop) = omega arith in
-      let u : len ≡ below + stop = omega arith in
-      let e : low_word m t left * 2 ^ len ≡ low_word m stop left * 2 ^ below * 2 ^ t =
-      ap₂ (λ (i s : ℕ). low_word m i left * 2 ^ s) k u ∙ low-moved m stop (t - stop) below left (omega arith) b.2
-      ∙ ap (λ (i : ℕ). low_word m stop left * 2 ^ below * 2 ^ i) (sym k) in
-      ap (λ (v : ℕ). v / 2 ^ t) (shl_exact {a = low_word m t left} t len 64 (low_below m t left) (omega arith) ∙ e)
+  moved =
+      let k : stop + (t - stop) ≡ t = omega arith in
+      let u : below + stop ≡ d + m = omega arith in
+      let e : low_word m t left * 2 ^ (d + m) ≡ low_word m stop left * 2 ^ below * 2 ^ t =
+      sym (ap₂ (λ (i s : ℕ). low_word m i left * 2 ^ s) k u) ∙ low-moved m stop (t - stop) below left (omega arith) b.2
+      ∙ ap (λ (i : ℕ). low_word m stop left * 2 ^ below * 2 ^ i) k in
+      ap (λ (v : ℕ). v / 2 ^ t) (shl_exact {a = low_word m t left} t (d + m) 64 (low_below m t left) (omega arith) ∙ e)
       ∙ shl-shr (low_word m stop left * 2 ^ below) t
 
-  pub within : left < 64
-  unfolding stop
-  within = low-within m stop left o (omega arith) b.2
-
-  pub high_end : (t len x : ℕ) → t ≡ low_count m → t ≤ 8 → len ≡ d + m → len ≤ 47 → x ≡ get_or (low_digits m) left 0
-      → (word_bits len (w + x * 2 ^ len % 2 ^ 64 / 2 ^ t) ≡ codeword m n) × (w + x * 2 ^ len % 2 ^ 64 / 2 ^ t < 2 ^ len)
+  pub high_end : (x : ℕ) → x ≡ low_word m t left
+      → (word_bits (d + m) (w + x * 2 ^ (d + m) % 2 ^ 64 / 2 ^ t) ≡ codeword m n) × (w + x * 2 ^ (d + m) % 2 ^ 64 / 2 ^ t < 2 ^ (d + m))
   unfolding stop below
-  high_end t len x q few l short e =
+  high_end x e =
       let low : ℕ = low_word m stop left in
-      let u : len ≡ stop + below = omega arith in
+      let u : d + m ≡ stop + below = omega arith in
       let v : w + low * 2 ^ below ≡ low * 2 ^ below + w = omega arith in
-      let y : x ≡ low_word m t left = e ∙ low-at m left within ∙ ap (λ (t : ℕ). low_word m t left) (sym q) in
-      rw (y, moved t len q few l short, u, v) (
+      rw (e, moved, u, v) (
         words-join stop below low w b.1 ∙ ap (λ (l : List Bool). l ++ word_bits below w) (low_bits m stop left)
             ∙ sym (digits_append m stop left [] (word_bits below w)) ∙ b.0,
         rw (pow-add 2 stop below) (digits_lt (low_below m stop left) b.1),
       )
+
+-- so it is with what is looked up
+module _ (m n d left w : ℕ) (o : Order m) (b : HighDigits m n d (min d (low_count m)) left w) where
+  pub within : left < 64
+  within = low-within m (min d (low_count m)) left o (omega arith) b.2
+
+  pub high_looked_up : (t len x : ℕ) → t ≡ low_count m → t ≤ 8 → len ≡ d + m → len ≤ 47 → x ≡ get_or (low_digits m) left 0
+      → (word_bits len (w + x * 2 ^ len % 2 ^ 64 / 2 ^ t) ≡ codeword m n) × (w + x * 2 ^ len % 2 ^ 64 / 2 ^ t < 2 ^ len)
+  high_looked_up t len x q few l short e =
+      rw (q, l) (high_end m n d (low_count m) left w o (omega arith) (omega arith) b x (e ∙ low-at m left within))

@@ -42,7 +42,8 @@ fn guess(order: Order, n: u64) -> usize
     (n.ilog2() as usize * rate(order) / 8).min(42)
 }
 
-// 1 where the first number of d bits before the last ones is at most n, else 0: a number to add, so that `body_length` has no branch on n.
+// 1 where the first number of d bits before the last ones is at most n, else 0: a number to add, so that `body_length` has no branch on n. Requires: n in the
+// range of a legal number, which `body_length` shows.
 #[tactic(auto, using(crate::proofs::Codewords::first_reached, crate::proofs::Codewords::first_none, crate::proofs::Codewords::first_above))]
 fn one_if_reached(order: Order, d: usize, n: u64) -> usize
     requires { n ≤ max_number }
@@ -52,7 +53,8 @@ fn one_if_reached(order: Order, d: usize, n: u64) -> usize
     usize::from(x != 0 && x <= n)
 }
 
-// How many bits of the codeword of n stand before its last ones: the largest d whose first number is at most n.
+// How many bits of the codeword of n stand before its last ones: the largest d whose first number is at most n. Requires: a legal number, which `bit_length` and
+// `codeword` show.
 fn body_length(order: Order, n: u64) -> usize
     requires { (1 ≤ n) × (n ≤ max_number) }
     ensures { (result + order.m ≡ length (codeword order.m n)) × (result + order.m ≤ 47) }
@@ -72,8 +74,8 @@ fn low_count(order: Order) -> usize
     if order.m() == 2 { 8 } else { 6 }
 }
 
-// The lowest digits of the numbers below 64.
-fn low_digits(order: Order) -> &'static [u8; 64]
+// The lowest digits of the numbers below 64, which `codeword` looks up.
+pub fn low_digits(order: Order) -> &'static [u8; 64]
     ensures { result.now ≡ low_digits order.m }
 {
     &LOW_DIGITS[order.m() - 2]

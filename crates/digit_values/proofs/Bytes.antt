@@ -30,7 +30,7 @@ entry_at m c b h l =
 
 -- ## Sums of look-ups
 
-saturated-is : (v r : ℕ) → r ≡ min max_number v → Saturated v r
+pub saturated-is : (v r : ℕ) → r ≡ min max_number v → Saturated v r
 saturated-is v r e = (λ h. omega arith, λ h. omega arith)
 
 saturated-add : (v u r s : ℕ) → Saturated v r → Saturated u s → Saturated (v + u) (r + s)
@@ -53,7 +53,19 @@ value-split m j a b x =
     ap (value m j) (words-split a b x) ∙ value-append m j (word_bits a (x / 2 ^ b)) (word_bits b x)
     ∙ ap (λ (k : ℕ). value m j (word_bits a (x / 2 ^ b)) + value m (j + k) (word_bits b x)) (words-length a (x / 2 ^ b))
 
+-- digits one after the other in a word
+pub saturated-join : (m j a b x k r s : ℕ) → Saturated (value m j (word_bits a (x / 2 ^ (k + b)))) r → Saturated (value m (j + a) (word_bits b (x / 2 ^ k))) s
+    → Saturated (value m j (word_bits (a + b) (x / 2 ^ k))) (r + s)
+saturated-join m j a b x k r s p q =
+    rw (value-split m j a b (x / 2 ^ k), shr-shr x k b)
+    (saturated-add (value m j (word_bits a (x / 2 ^ (k + b)))) (value m (j + a) (word_bits b (x / 2 ^ k))) r s p q)
+
 -- a byte more
+pub saturated-byte : (m j a x k r s : ℕ) → Saturated (value m j (word_bits a (x / 2 ^ (k + 8)))) r → s ≡ min max_number (value m (j + a) (word_bits 8 (x / 2 ^ k)))
+    → Saturated (value m j (word_bits (a + 8) (x / 2 ^ k))) (r + s)
+saturated-byte m j a x k r s p e = saturated-join m j a 8 x k r s p (saturated-is _ s e)
+
+-- .. of the first six of a word
 pub saturated-more : (m x c r s : ℕ) → c < 6 → Saturated (value m 1 (word_bits (8 * c) (x / 2 ^ (64 - 8 * c)))) r
     → s ≡ min max_number (value m (8 * c + 1) (word_bits 8 (x / 2 ^ (56 - 8 * c))))
     → Saturated (value m 1 (word_bits (8 * (c + 1)) (x / 2 ^ (64 - 8 * (c + 1))))) (r + s)
@@ -63,10 +75,7 @@ saturated-more m x c r s h p e =
     let after : 64 - 8 * (c + 1) ≡ k = omega arith in
     let many : 8 * (c + 1) ≡ 8 * c + 8 = omega arith in
     let place : 8 * c + 1 ≡ 1 + 8 * c = omega arith in
-    let first = rw (before, ← shr-shr x k 8) at p in
-    let last = saturated-is _ s (rw place at e) in
-    rw (after, many, value-split m 1 (8 * c) 8 (x / 2 ^ k))
-    (saturated-add (value m 1 (word_bits (8 * c) (x / 2 ^ k / 2 ^ 8))) (value m (1 + 8 * c) (word_bits 8 (x / 2 ^ k))) r s first last)
+    rw (after, many) (saturated-byte m 1 (8 * c) x k r s (rw before at p) (rw place at e))
 
 -- ## The first bits of a word
 

@@ -5,7 +5,7 @@ ghost use Rattle.std.specs.Prelude.{◌≡◌, ◌≤◌, MatchResult, false, tr
 ghost use Rattle.calls.specs.declared.Refusal.TheVariants.{BadOrder};
 ghost use Rattle.calls.specs.Limits.{is_order, max_number};
 ghost use Rattle.fibonacci.specs.Code.{F, first};
-ghost use Rattle.fibonacci.specs.Leaves.{number_or_zero, Holds};
+ghost use Rattle.fibonacci.specs.Leaves.{number_or_zero, Positions, Holds};
 
 mod tables;
 
@@ -36,9 +36,10 @@ impl Order {
         self.m
     }
 
-    // F(0), F(1), .. , as far as they are at most 4,294,967,295.
-    fn position_row(self) -> &'static [u32; 47]
-        ensures { Holds (F self.m) result.now }
+    // The position values F(0), F(1), .. , as far as they are at most 4,294,967,295, and 0 for those above: a row that a caller may look values up in. Its own
+    // entries recur.
+    pub fn position_row(self) -> &'static [u32; 47]
+        ensures { Positions self.m result.now × Holds (F self.m) result.now }
     {
         &POSITIONS[self.m - 2]
     }

@@ -1,9 +1,12 @@
--- What the search for a bit promises.
+-- Ranges of the bits of bytes, and what the search for a bit promises.
 use Rattle.std.specs.Prelude.{◌≡◌, Bool, List, ◌⊎◌, ℕ, ◌+◌, ◌≤◌, ◌<◌, take, drop}
-use Rattle.bits.specs.Bits.{count, select_bit}
-use Rattle.rank_select.specs.Ranges.{range}
+use Rattle.bits.specs.Bits.{unpack, count, select_bit}
 use Rattle.rank_select.specs.declared.Range.{Range}
 use Rattle.rank_select.specs.declared.Skipped.{Skipped}
+
+-- The k bits from bit `from` on
+abbrev pub range : ℕ → ℕ → List ℕ → List Bool
+range from k s = take k (drop from (unpack s))
 
 -- The bits of a range
 abbrev pub bits_of : Range → List Bool

@@ -1,2 +1,1 @@
-pub mod Ranges
 pub mod Leaves

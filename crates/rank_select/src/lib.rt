@@ -1,9 +1,8 @@
 // The ones of any range of the bits of a byte slice, and the place of a bit in it, by words.
 #![tactic(auto)]
 
-ghost use Rattle.std.specs.Prelude.{◌≡◌, true, ◌+◌, ◌*◌, ◌^◌, ◌≤◌, ◌<◌, length, take};
+ghost use Rattle.std.specs.Prelude.{◌≡◌, true, ◌+◌, ◌*◌, ◌^◌, ◌≤◌, ◌<◌, length, take, drop};
 ghost use Rattle.bits.specs.Bits.{unpack, count, select_bit};
-ghost use Rattle.rank_select.specs.Ranges.{range};
 
 // How many ones eight bytes have, counted as those of a word.
 fn ones_of_word(w: &[u8; 8]) -> usize
@@ -44,7 +43,7 @@ pub fn ones_before(s: &[u8], e: usize) -> usize
 // Requires: the range is in the slice and its end fits in a usize, which the index shows: its bitmaps are in its bytes, and at most 4,096 bits long.
 pub fn ones_from(s: &[u8], from: usize, k: usize) -> usize
     requires { (from + k ≤ 8 * length s.now) × (from + k < 2 ^ 64) }
-    ensures { result ≡ count true (range from k s.now) }
+    ensures { result ≡ count true (take k (drop from (unpack s.now))) }
 {
     ones_before(s, from + k) - ones_before(s, from)
 }
@@ -107,7 +106,7 @@ impl<'a> Range<'a> {
 // Requires: what `ones_from` requires, which the index shows too.
 pub fn select_bit(s: &[u8], from: usize, k: usize, v: bool, j: usize) -> usize
     requires { (from + k ≤ 8 * length s.now) × (from + k < 2 ^ 64) }
-    ensures { result ≡ select_bit v j (range from k s.now) }
+    ensures { result ≡ select_bit v j (take k (drop from (unpack s.now))) }
 {
     let all = Range {
         bytes: s,

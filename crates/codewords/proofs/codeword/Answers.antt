@@ -6,7 +6,7 @@ use lib.ListN.{get_or}
 use lib.Pow.{pow_mono}
 use Rattle.bits.specs.Bits.{word_bits}
 use Rattle.fibonacci.specs.Code.{codeword}
-use Rattle.codewords.proofs.Codewords.{within, high_end}
+use Rattle.codewords.proofs.Codewords.{within, high_looked_up}
 use Rattle.codewords.proofs.codeword.Goals as goal
 use Rattle.codewords.proofs.codeword.Goals.{After-low_count}
 
@@ -21,7 +21,7 @@ made : (c : After-low_count)
 made c =
     let o = c.args.order in
     let h = c.high_digits-high in
-    high_end o.m c.args.n c.body_length-d.result h.result.left h.result.word o.in_use h.ensures c.low_count.result
+    high_looked_up o.m c.args.n c.body_length-d.result h.result.left h.result.word o.in_use h.ensures c.low_count.result
     (c.body_length-d.result + c.m.result) c.from-digits.result c.low_count.ensures.0 c.low_count.ensures.1 (omega arith) (omega arith)
     (c.from-digits.ensures ∙ ap (λ (l : List ℕ). get_or l h.result.left 0) c.low_digits.ensures)
 

@@ -1,7 +1,6 @@
 use mathlib.Core.Path.{◌∙◌}
 use native.Mathlib.Omega.{arith}
-use Rattle.fibonacci.specs.Leaves.{Holds}
-use Rattle.fibonacci.proofs.Lookup.{position-within, number-kept}
+use Rattle.fibonacci.proofs.Lookup.{position-within, position_at}
 use Rattle.fibonacci.proofs.Order.position.Goals as goal
 
 pub bounds-row-j : goal.bounds-row-j
@@ -11,5 +10,6 @@ pub offset_bounds-row-j : goal.offset_bounds-row-j
 offset_bounds-row-j c = omega (arith, position-within c.args.self.m c.args.self.in_use c.args.j c.requires)
 
 pub returns : goal.returns
-unfolding Holds
-returns c = c.from.ensures ∙ c.position_row-row.ensures c.args.j ∙ number-kept _ c.requires
+returns c =
+    let o = c.args.self in
+    c.from.ensures ∙ position_at o.m o.in_use _ c.position_row-row.ensures.0.1 c.args.j c.requires

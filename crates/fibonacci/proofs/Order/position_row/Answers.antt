@@ -1,13 +1,16 @@
-use mathlib.Core.Path.{sym, subst}
+use mathlib.Core.Path.{◌≡◌, refl}
+use mathlib.Core.Bool.{true}
 use mathlib.Core.List.{[]}
-use Rattle.fibonacci.specs.Code.{past, F}
-use Rattle.fibonacci.specs.Leaves.{number_or_zero, Holds, table_row}
-use Rattle.fibonacci.proofs.Lookup.{table_of, row_at, positions-hold}
+use Prim.Native.Nat.{◌-◌}
+use lib.ListN.{get_or}
+use Rattle.fibonacci.specs.Leaves.{recurs_after, recurs}
+use Rattle.fibonacci.specs.declared.tables.TheConstants.{POSITIONS}
+use Rattle.fibonacci.proofs.Lookup.{rows-recur, recurs-holds}
 use Rattle.fibonacci.proofs.Order.position_row.Goals as goal
 
--- (one computation over the table)
+-- (one computation over the table's own entries)
 pub returns : goal.returns
-unfolding table_of table_row number_or_zero F past
 returns c =
     let o = c.args.self in
-    subst (Holds (F o.m)) (sym (row_at F 2 o.m [] o.in_use.0 o.in_use.1)) (positions-hold o.m o.in_use)
+    let r : recurs o.m (get_or POSITIONS (o.m - 2) []) ≡ true = rows-recur POSITIONS [] o.m o.in_use (unfold recurs recurs_after in refl) in
+    ((o.in_use, r), recurs-holds o.m o.in_use _ r)

@@ -9,8 +9,7 @@ use Rattle.bits.proofs.Bytes.{unpack-length}
 use Rattle.bits.proofs.Count.{count-both}
 use Rattle.bits.proofs.Select.{part-bits}
 use Rattle.rank_select.specs.declared.Range.{Range}
-use Rattle.rank_select.specs.Ranges.{range}
-use Rattle.rank_select.specs.Leaves.{bits_of}
+use Rattle.rank_select.specs.Leaves.{range, bits_of}
 use Rattle.rank_select.proofs.Range.count.Goals as goal
 
 -- n ones, counted in the part of the bytes from that of the first bit on
