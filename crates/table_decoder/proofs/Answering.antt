@@ -68,7 +68,7 @@ pub table-into : (s before : List ℕ) → read_table_into s before ≡ read_int
 unfolding read_table_into read_into
 table-into s before = rw (table-read s (length before)) refl
 
-table-promise : (s before : List ℕ) (a : Outcome ℕ) (after : List ℕ) → ReadPromise 3 s before a after → ReadTablePromise s before a after
+pub table-promise : (s before : List ℕ) (a : Outcome ℕ) (after : List ℕ) → ReadPromise 3 s before a after → ReadTablePromise s before a after
 table-promise s before a after p = rw (table-read s (length before), table-into s before) p
 
 -- ## What was scanned

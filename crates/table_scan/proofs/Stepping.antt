@@ -90,20 +90,20 @@ bits-next s i h =
 -- ## A pending codeword
 
 -- What is known of the pending bits before the ones at their end: where they are fewer than 37, how many, and their value
-pub record Known (body : List Bool) (len val : ℕ) : Type 0 where
+pub record Pending (body : List Bool) (len val : ℕ) : Type 0 where
   pub near : len < 37 → (length body ≡ len) × (val ≡ value 3 1 body)
   pub far : 37 ≤ len → 37 ≤ length body
 
-pub pending-none : Known [] 0 0
+pub pending-none : Pending [] 0 0
 pending-none = record { near = λ h. (refl, unfold value in refl); far = λ h. absurd (omega arith) }
 
 -- all that remains of a byte
-pub pending-left : (q : List Bool) → length q < 37 → Known q (length q) (value0 q)
+pub pending-left : (q : List Bool) → length q < 37 → Pending q (length q) (value0 q)
 pending-left q h = record { near = λ h. (refl, refl); far = λ l. absurd (omega arith) }
 
 -- bits more
-pub pending-more : (body : List Bool) (len val : ℕ) (q : List Bool) → Known body len val
-    → Known (body ++ q) (len + length q) (val + moved len (value0 q) (value1 q + value2 q) (value1 q))
+pub pending-more : (body : List Bool) (len val : ℕ) (q : List Bool) → Pending body len val
+    → Pending (body ++ q) (len + length q) (val + moved len (value0 q) (value1 q + value2 q) (value1 q))
 pending-more body len val q p =
     let long : length (body ++ q) ≡ length body + length q = length-append body q in
     record {
@@ -114,7 +114,7 @@ pending-more body len val q p =
       far = λ h. elim (dec_le 37 len) [ yes l ↦ omega (arith, p.far l, long) | no l ↦ omega (arith, (p.near (omega arith)).0, long) ];
     }
 
-pub pending-clamped : (body : List Bool) (len val : ℕ) → Known body len val → Known body (min len 37) val
+pub pending-clamped : (body : List Bool) (len val : ℕ) → Pending body len val → Pending body (min len 37) val
 pending-clamped body len val p = record { near = λ h. let n = p.near (omega arith) in (omega arith, n.1); far = λ h. p.far (omega arith) }
 
 -- no number whose codeword has 37 bits or more before its last ones is legal
@@ -123,7 +123,7 @@ unfolding first F past
 first-far = leb-false (first 3 37) max_number refl
 
 -- the number of the codeword that three ones end
-module _ (q : List Bool) (len val : ℕ) (p : Known q len val) where
+module _ (q : List Bool) (len val : ℕ) (p : Pending q len val) where
   pub pending-near : first 3 len ≤ max_number → number 3 (q ++ ones 3) ≡ first 3 len + val
   pending-near g =
       elim (dec_le 37 len) [

@@ -26,7 +26,7 @@ use Rattle.calls.specs.Calls.{Outcome, check, and_then}
 use Rattle.table_scan.specs.declared.Pending.{Pending}
 use Rattle.byte_table.specs.declared.Row.{Row}
 use Rattle.byte_table.specs.Leaves.{without_trailing, trailing_ones, parse_byte, finishing, inside_numbers, value0, value1, value2, moved, remains, row_of_parse, row_at, Small, IsRow}
-use Rattle.calls.proofs.Decoding.{contents-past}
+use Rattle.calls.proofs.Decoding.{contents-many, contents-past}
 use Rattle.reading.specs.Reading.{fibonacci}
 use Rattle.reading.specs.Leaves.{NumberOf, is_padding}
 use Rattle.reading.proofs.Reached.{Reached, reached-start, reached-open, reached-shut, reached-numbers, reached-end}
@@ -34,7 +34,7 @@ use Rattle.reading.proofs.Checking.{padding-is, padding-not, contents-rest, cont
 use Rattle.table_scan.specs.Leaves.{after, judged, stored}
 use Rattle.table_scan.proofs.Refusing.{judged-same, judged-fault, judged-passed}
 use Rattle.table_scan.proofs.Inside.{few-are, first_three, taken, open-parse, shut-parse}
-use Rattle.table_scan.proofs.Stepping.{without-settled, without-trailing, trailing-few, finishing-ones, row-after, bits-next, Known, pending-none, pending-left, pending-more, pending-clamped, pending-near, pending-far}
+use Rattle.table_scan.proofs.Stepping.{without-settled, without-trailing, trailing-few, finishing-ones, row-after, bits-next, Pending as Known, pending-none, pending-left, pending-more, pending-clamped, pending-near, pending-far}
 use Rattle.std.specs.Prelude.{Ok, Err}
 
 -- ## What the scan leaves
@@ -59,13 +59,13 @@ pub record Walked (limit : ℕ) (s : List ℕ) (i : ℕ) (row : List ℕ) (count
   pub most : count ≤ max_count
   pub legal : Legal limit (map (number 3) words)
   pub stored : take count row ≡ map (number 3) words
-  pub room : max_count + 3 ≤ length row
+  pub room : length row ≡ 4098
   pub pending : Known body left.len left.value
   pub clamped : left.len ≤ 37
   pub small : left.value ≤ 2 ^ 43 * i
   pub at : left.rows ≡ 256 * run
 
-pub walked_start : (limit : ℕ) (s row : List ℕ) → max_count + 3 ≤ length row → Walked limit s 0 row 0 (after (record { len = 0; value = 0; ones = 0 }))
+pub walked_start : (limit : ℕ) (s row : List ℕ) → length row ≡ 4098 → Walked limit s 0 row 0 (after (record { len = 0; value = 0; ones = 0 }))
 walked_start limit s row h =
     record {
       words = [];
@@ -213,6 +213,12 @@ module _ {limit : ℕ} {s : List ℕ} {i : ℕ} {row : List ℕ} {count : ℕ} {
       all-numbers : (later : List ℕ) × (numbers 3 (unpack s) ≡ (done ++ (number 3 ended ∷ within)) ++ later)
       all-numbers = let t = reached-numbers reached-next in (t.0, t.1 ∙ ap (λ (l : List ℕ). l ++ t.0) next-numbers)
 
+      -- it is one too many
+      pub walked_many : max_count ≤ count → contents (fibonacci 3) limit s ≡ Err TooManyCodewords
+      walked_many f =
+          contents-many (fibonacci 3) limit s done k.legal (number 3 ended) (within ++ all-numbers.0) (all-numbers.1 ∙ append_assoc done (number 3 ended ∷ within) all-numbers.0)
+          (omega (arith, done-long, k.most))
+
       -- n was found for its number
       module _ (n : ℕ) (is : NumberOf 3 (left.len + r.len) (left.value + v) n) (top : limit ≤ max_number) where
         -- n is legal where the number is
@@ -226,7 +232,7 @@ module _ {limit : ℕ} {s : List ℕ} {i : ℕ} {row : List ℕ} {count : ℕ} {
         judged-within : judged count (is_number limit n) r.second r.third limit ≡ judged (length done) (is_number limit (number 3 ended)) (get_or within 0 0) (get_or within 1 0) limit
         judged-within = judged-same limit (sym done-long) alike second_is third-is
 
-        walked-fault : (q : Refusal) → judged count (is_number limit n) r.second r.third limit ≡ Err q → contents (fibonacci 3) limit s ≡ Err q
+        pub walked-fault : (q : Refusal) → judged count (is_number limit n) r.second r.third limit ≡ Err q → contents (fibonacci 3) limit s ≡ Err q
         walked-fault q j =
             judged-fault limit s done k.legal (number 3 ended) ended-pos within within-few within-pos all-numbers.0 all-numbers.1 q (sym judged-within ∙ j)
 
@@ -251,8 +257,8 @@ module _ {limit : ℕ} {s : List ℕ} {i : ℕ} {row : List ℕ} {count : ℕ} {
           abbrev new : List ℕ
           new = n ∷ r.second ∷ r.third ∷ []
 
-          walked-room : max_count + 3 ≤ length (sets row count new)
-          walked-room = omega (arith, length-sets row count new, k.room)
+          walked-room : length (sets row count new) ≡ 4098
+          walked-room = length-sets row count new ∙ k.room
 
           kept-is : count + r.count ≤ max_count → take (count + r.count) (sets row count new) ≡ done ++ (number 3 ended ∷ within)
           kept-is f =

@@ -13,8 +13,8 @@ use byte_table::Row;
 use calls::Refusal;
 use reading::Encoding;
 
-// The first number that a byte ends goes to place 4,096 at most, where it is one too many, and two more may follow it.
-pub const ROOM: usize = 4099;
+// The first number that a byte ends goes to place 4,095 at most, and two more may follow it.
+pub const ROOM: usize = 4098;
 
 // What is pending after a byte: `len` bits up to the last zero, or at least so many where `len` is 37, their value, and where the rows for the next byte begin:
 // 256 for each one after them. No codeword with 37 bits or more before its last ones has a legal number, so that it does not matter how many more they are.
@@ -51,7 +51,7 @@ fn fault(place: usize) -> Refusal
 }
 
 // The check of the numbers that a byte ends, from a place on; the first at fault decides. Those after the first are 15 at most, so that only a small limit
-// refuses them.
+// refuses them. Requires: a place of a row, or the next one, which `store` shows.
 fn judge(place: usize, first: u64, second: u32, third: u32, limit: u32) -> Result<(), Refusal>
     requires { place ≤ max_count }
     ensures { result ≡ judged place (is_number limit first) second third limit }
@@ -68,16 +68,16 @@ fn judge(place: usize, first: u64, second: u32, third: u32, limit: u32) -> Resul
     Ok(())
 }
 
-// Three numbers from element i on. Requires: a place of a row or the next one, which `store` requires.
+// Three numbers from element i on. Requires: a place of a row, which `store` requires.
 fn put(row: &mut [u32; ROOM], i: usize, first: u32, second: u32, third: u32)
-    requires { i ≤ max_count }
+    requires { i < max_count }
     ensures { row.new ≡ sets row.old i (first ∷ second ∷ third ∷ []) }
 {
     row[i..i + 3].copy_from_slice(&[first, second, third]);
 }
 
-// The numbers that a byte ends, checked, and stored from place `count` on: how many there are then. Requires: as many numbers as a row has at most, and as few
-// more as end in a byte, which `walk` shows.
+// The numbers that a byte ends, checked, and stored from place `count` on: how many there are then. Requires: a row that is not full, which `walk` checks, and
+// as few more numbers as end in a byte, which it shows.
 #[tactic(auto, using(crate::proofs::Refusing::judged_legal))]
 fn store(
     row: &mut [u32; ROOM],
@@ -86,7 +86,7 @@ fn store(
     r: Row,
     limit: u32,
 ) -> Result<usize, Refusal>
-    requires { (count ≤ max_count) × (r.count ≤ 3) }
+    requires { (count < max_count) × (r.count ≤ 3) }
     ensures answer { result ≡ stored count (is_number limit first) r limit }
     ensures list { OnOk result (row.new ≡ sets row.old count (first ∷ r.second ∷ r.third ∷ [])) }
 {
@@ -113,6 +113,9 @@ pub fn walk(encoding: Encoding, row: &mut [u32; ROOM]) -> Result<usize, Refusal>
         if r.count == 0 {
             pending = Pending::new(len.min(37), value, r.rest.ones);
         } else {
+            if count == calls::MAX_COUNT {
+                return Err(Refusal::TooManyCodewords);
+            }
             let first = reading::number(encoding.order, len, value);
             count = store(row, count, first, r, encoding.limit)?;
             pending = Pending::new(r.rest.len, r.rest.value, r.rest.ones);
