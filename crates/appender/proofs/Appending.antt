@@ -6,7 +6,7 @@ use Prim.Native.Nat.{ℕ, ◌≤◌, ◌<◌}
 use native.Mathlib.Omega.{arith}
 use lib.Dec.{leb, ltb}
 use lib.ListN.{length}
-use borrow.Author.Tests.{le-leb, lt-leb, leb-false, le-ltb, ltb-false, not-false}
+use borrow.Author.Tests.{le-leb, lt-leb, leb-false, le-ltb, lt-ltb, ltb-false, not-false}
 use Rattle.bits.specs.Bits.{Bytes, byte_count, unpack}
 use Rattle.bits.specs.Leaves.{put_at}
 use Rattle.bits.proofs.Put.{put-packed}
@@ -56,15 +56,30 @@ module _ (m room : ℕ) (h : Header) (n : ℕ) where
   append-accepts a =
       rw (a.asked, is-good room h a.good, number-inside max_number n a.legal, lt-leb max_count h.count a.count, le-ltb (capacity room) _ a.fits) refl
 
-  -- ## What is refused
+  -- ## What is refused, check by check
 
   pub append-order : is_order m ≡ false → append m room h n ≡ Err BadOrder
   unfolding append
   append-order o = rw o refl
 
-  pub append-full : is_order m ≡ true → is_bad_header room h ≡ false → is_number max_number n ≡ true → max_count ≤ h.count → append m room h n ≡ Err FullRow
-  unfolding append
-  append-full o g legal c = rw (o, g, number-inside max_number n legal, le-leb max_count h.count c) refl
+  module _ (o : is_order m ≡ true) where
+    pub append-header : is_bad_header room h ≡ true → append m room h n ≡ Err BadHeader
+    unfolding append
+    append-header b = rw (o, b) refl
+
+    module _ (g : is_bad_header room h ≡ false) where
+      pub append-number : is_number max_number n ≡ false → append m room h n ≡ Err (BadNumber 0)
+      unfolding append
+      append-number f = rw (o, g, number-outside max_number n f) refl
+
+      module _ (legal : is_number max_number n ≡ true) where
+        pub append-full : max_count ≤ h.count → append m room h n ≡ Err FullRow
+        unfolding append
+        append-full c = rw (o, g, number-inside max_number n legal, le-leb max_count h.count c) refl
+
+        pub append-room : h.count < max_count → capacity room < (extended m h n).bits → append m room h n ≡ Err NoRoom
+        unfolding append
+        append-room c l = rw (o, g, number-inside max_number n legal, lt-leb max_count h.count c, lt-ltb (capacity room) _ l) refl
 
 -- ## What it leaves behind
 

@@ -8,7 +8,6 @@ ghost use Rattle.calls.specs.Limits.{max_number};
 ghost use Rattle.bit_decoder.specs.Leaves.{Sought};
 
 use fibonacci::Order;
-use reading::Encoding;
 
 // What stands next in an encoding: first `len` bits, the last of them a zero, whose value is `val`, and then as many ones as the order, which end a codeword
 // before a bit; or fewer ones, and no bit more.
@@ -36,18 +35,19 @@ fn ones_value(order: Order, len: usize, run: usize) -> u64
     after - order.first_number(len + 1)
 }
 
-// The next codeword from a bit on, or what is left. Requires: a bit within the bytes or at their end, which the decoder shows.
-pub fn seek(encoding: Encoding, from: usize) -> Next
-    requires { from ≤ 8 * length encoding.bytes.now }
-    ensures { Sought encoding.entry.order.m (unpack encoding.entry.bytes.now) from result }
+// The next codeword from a bit on, or what is left. Requires: fewer than 2^28 bytes, and a bit within them or at their end, which the decoder shows.
+pub fn seek(order: Order, s: &[u8], from: usize) -> Next
+    requires few { length s.now < 2 ^ 28 }
+    requires within { from ≤ 8 * length s.now }
+    ensures { Sought order.m (unpack s.now) from result }
 {
-    let m = encoding.order.m();
-    let end = 8 * encoding.bytes.len();
+    let m = order.m();
+    let end = 8 * s.len();
     let mut len: usize = 0;
     let mut val: u64 = 0;
     let mut run: usize = 0;
     for k in from..end {
-        if bits::bit(encoding.bytes, k) {
+        if bits::bit(s, k) {
             run += 1;
             if run == m {
                 return Next::Codeword {
@@ -57,7 +57,7 @@ pub fn seek(encoding: Encoding, from: usize) -> Next
                 };
             }
         } else {
-            val += ones_value(encoding.order, len, run);
+            val += ones_value(order, len, run);
             len += run + 1;
             run = 0;
         }

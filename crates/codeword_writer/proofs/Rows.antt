@@ -1,20 +1,18 @@
 -- A row, number by number: its bits, and these put into a buffer.
 use mathlib.Core.Path.{◌≡◌, refl, sym, ap, ◌∙◌}
-use mathlib.Core.Bool.{Bool, false}
+use mathlib.Core.Bool.{Bool}
 use mathlib.Core.List.{List, [], ◌∷◌, ◌++◌, flatten}
 use Prim.Native.Nat.{ℕ, ◌+◌, ◌*◌, ◌≤◌, ◌<◌}
 use native.Mathlib.Omega.{arith}
 use native.Mathlib.Numerals.{add-one}
-use lib.ListN.{length, get_or, take, drop, replicate, length-append, take-append-drop, drop_of_length-le}
+use lib.ListN.{length, get_or, take, drop, length-append, take-append-drop, drop_of_length-le}
 use lib.Seq.{take-suc, take_all}
 use Rattle.lists.proofs.Lists.{drop-next}
-use Rattle.bits.specs.Bits.{byte_count, unpack, padding}
-use Rattle.bits.specs.Leaves.{put_to}
-use Rattle.bits.proofs.Bytes.{unpack-length}
-use Rattle.bits.proofs.Packing.{unpack-pack, pack-length}
-use Rattle.bits.proofs.Put.{filled_none, filled_more}
+use Rattle.bits.specs.Bits.{byte_count}
+use Rattle.bits.specs.Leaves.{put_to, put_at}
+use Rattle.bits.proofs.Put.{Filled, filled_none, filled_more, filled-end}
 use Rattle.fibonacci.specs.Code.{codeword}
-use Rattle.fibonacci.specs.Encoding.{row_bits, encoding}
+use Rattle.fibonacci.specs.Encoding.{row_bits}
 use Rattle.fibonacci.proofs.Rows.{bits-append, bits-snoc}
 
 -- ## The number n at place i
@@ -41,16 +39,15 @@ bits-end m i row h = rw (drop_of_length-le row {i = i} h)
 
 -- ## Putting
 
--- after i numbers: the buffer begins with their codewords, and zeros to the end of the last byte
-abbrev pub Put : ℕ → List ℕ → ℕ → ℕ → List Bool → Type 0
-Put m row i at now =
-    let b : List Bool = row_bits m (take i row) in (at ≡ length b) × (take (8 * byte_count (length b)) now ≡ b ++ replicate (padding (length b)) false)
+-- after i numbers: their codewords stand in the buffer that was old, and from byte c on it is as it was
+abbrev pub Put : ℕ → List ℕ → ℕ → ℕ → ℕ → List Bool → List Bool → Type 0
+Put m row c i at now old = (at ≡ length (row_bits m (take i row))) × Filled (row_bits m (take i row)) (8 * c) now old
 
-pub put-none : (m : ℕ) (row : List ℕ) (now : List Bool) → Put m row 0 0 now
+pub put-none : (m : ℕ) (row : List ℕ) (c : ℕ) (old : List Bool) → Put m row c 0 0 old old
 unfolding row_bits flatten
-put-none m row now = (refl, (filled_none 0 now).0)
+put-none m row c old = (refl, filled_none (8 * c) old)
 
-module _ (m : ℕ) (row : List ℕ) (i at : ℕ) (now : List Bool) (p : Put m row i at now) where
+module _ (m : ℕ) (row : List ℕ) (c i at : ℕ) (now old : List Bool) (p : Put m row c i at now old) where
   pub put-room : (n : ℕ) → i < length row → n ≡ get_or row i 0 → at + length (codeword m n) ≤ length (row_bits m row)
   put-room n h e =
       omega (
@@ -63,21 +60,14 @@ module _ (m : ℕ) (row : List ℕ) (i at : ℕ) (now : List Bool) (p : Put m ro
       )
 
   -- with zeros up to bit d
-  pub put_next : (n d : ℕ) (new : List Bool) → i < length row → n ≡ get_or row i 0 → 8 * byte_count (at + length (codeword m n)) ≤ d
-      → new ≡ put_to at (codeword m n) d now → Put m row (i + 1) (at + length (codeword m n)) new
-  put_next n d new h e g q =
+  pub put_next : (n d : ℕ) (new : List Bool) → i < length row → n ≡ get_or row i 0 → 8 * byte_count (at + length (codeword m n)) ≤ d → d ≤ 8 * c
+      → new ≡ put_to at (codeword m n) d now → Put m row c (i + 1) (at + length (codeword m n)) new old
+  put_next n d new h e g k q =
       let b : List Bool = row_bits m (take i row) in
       rw (bits-done row i n h e m) (
         ap (λ (k : ℕ). k + length (codeword m n)) p.0 ∙ sym (length-append b (codeword m n)),
-        rw (q, p.0) (filled_more b (codeword m n) d d now now (p.1, refl) (rw p.0 at g) (omega arith)).0,
+        rw (q, p.0) (filled_more b (codeword m n) (8 * c) d now old p.1 (rw p.0 at g) k),
       )
 
--- at the end it has the bits of the encoding
-pub put-end : (m i at : ℕ) (row out : List ℕ) → Put m row i at (unpack out) → length row ≤ i → length out ≡ length (encoding m row)
-    → unpack out ≡ unpack (encoding m row)
-unfolding encoding
-put-end m i at row out p h l =
-    let b : List Bool = row_bits m row in
-    let all : take (8 * byte_count (length b)) (unpack out) ≡ unpack out =
-    take_all (8 * byte_count (length b)) (unpack out) (omega (arith, unpack-length out, l, pack-length b)) in
-    sym all ∙ rw (take_all i row h) at p.1 ∙ sym (unpack-pack b)
+  pub put-end : length row ≤ i → c ≡ byte_count (length (row_bits m row)) → now ≡ put_at 0 (row_bits m row) old
+  put-end h e = filled-end (row_bits m row) now old (rw (take_all i row h, e) at p.1)

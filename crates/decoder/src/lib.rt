@@ -31,7 +31,7 @@ fn next_number(
     requires { bit ≤ 8 * length encoding.bytes.now }
     ensures { let e = encoding.entry in Leads e.order.m e.limit e.bytes.now bit count result }
 {
-    match bit_decoder::seek(encoding, bit) {
+    match bit_decoder::seek(encoding.order, encoding.bytes, bit) {
         Next::Rest { len, val, run } => {
             if !reading::is_padding(len, val, run) {
                 return Err(Refusal::BadRest);

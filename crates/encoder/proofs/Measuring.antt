@@ -19,36 +19,36 @@ use Rattle.codeword_writer.proofs.Rows.{bits_left, bits-end}
 use Rattle.std.specs.Prelude.{Ok, Err}
 
 -- the numbers from place i on are still to be checked
-abbrev unchecked : ℕ → List ℕ → ℕ → Outcome Header
-unchecked m row i = check_each BadNumber max_number i (drop i row) (Ok (header_of m row))
+abbrev unchecked : ℕ → ℕ → List ℕ → ℕ → Outcome Header
+unchecked m limit row i = check_each BadNumber limit i (drop i row) (Ok (header_of m row))
 
 -- after i numbers: none of them is at fault, their codewords have so many bits, and their total is so large
-pub record Counted (m : ℕ) (row : List ℕ) (i bits total : ℕ) : Type 0 where
+pub record Counted (m limit : ℕ) (row : List ℕ) (i bits total : ℕ) : Type 0 where
   pub few : bits ≤ 47 * i
   pub small : total ≤ max_number * i
   pub bits_are : bits + length (row_bits m (drop i row)) ≡ length (row_bits m row)
   pub total_is : total + sum (drop i row) ≡ sum row
-  pub checked : unchecked m row 0 ≡ unchecked m row i
+  pub checked : unchecked m limit row 0 ≡ unchecked m limit row i
 
-pub counted_none : (m : ℕ) (row : List ℕ) → Counted m row 0 0 0
-counted_none m row = record { few = omega arith; small = omega arith; bits_are = omega arith; total_is = omega arith; checked = refl }
+pub counted_none : (m limit : ℕ) (row : List ℕ) → Counted m limit row 0 0 0
+counted_none m limit row = record { few = omega arith; small = omega arith; bits_are = omega arith; total_is = omega arith; checked = refl }
 
-module _ (m : ℕ) (row : List ℕ) (i bits total : ℕ) (c : Counted m row i bits total) where
-  pub counted-more : (n len : ℕ) → i < length row → n ≡ get_or row i 0 → is_number max_number n ≡ true → len ≡ length (codeword m n) → len ≤ 47
-      → Counted m row (i + 1) (bits + len) (total + n)
-  counted-more n len h e q is short =
+module _ (m limit : ℕ) (row : List ℕ) (i bits total : ℕ) (c : Counted m limit row i bits total) where
+  pub counted-more : (n len : ℕ) → i < length row → n ≡ get_or row i 0 → is_number limit n ≡ true → limit ≤ max_number → len ≡ length (codeword m n) → len ≤ 47
+      → Counted m limit row (i + 1) (bits + len) (total + n)
+  counted-more n len h e q top is short =
       record {
         few = omega (arith, c.few);
-        small = omega (arith, c.small, (number_is max_number n q).1);
+        small = omega (arith, c.small, (number_is limit n q).1);
         bits_are = omega (arith, c.bits_are, ap length (bits_left row i n h e m), length-append (codeword m n) (row_bits m (drop (i + 1) row)));
         total_is = omega (arith, c.total_is, ap sum (drop-next row i 0 h e));
-        checked = c.checked ∙ each_more BadNumber max_number row i n h e (Ok (header_of m row)) q;
+        checked = c.checked ∙ each_more BadNumber limit row i n h e (Ok (header_of m row)) q;
       }
 
-  pub counted-fault : (n : ℕ) → i < length row → n ≡ get_or row i 0 → is_number max_number n ≡ false → Err (BadNumber i) ≡ unchecked m row 0
-  counted-fault n h e q = sym (c.checked ∙ each-fault BadNumber max_number row i n h e (Ok (header_of m row)) q)
+  pub counted-fault : (n : ℕ) → i < length row → n ≡ get_or row i 0 → is_number limit n ≡ false → Err (BadNumber i) ≡ unchecked m limit row 0
+  counted-fault n h e q = sym (c.checked ∙ each-fault BadNumber limit row i n h e (Ok (header_of m row)) q)
 
-  pub counted-end : length row ≤ i → Ok (header bits (length row) total) ≡ unchecked m row 0
+  pub counted-end : length row ≤ i → Ok (header bits (length row) total) ≡ unchecked m limit row 0
   unfolding check_each
   counted-end h =
       let none : drop i row ≡ [] = drop_of_length-le row {i = i} h in

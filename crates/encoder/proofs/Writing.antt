@@ -1,13 +1,13 @@
 -- What writing answers and leaves behind, check by check.
-use mathlib.Core.Path.{◌≡◌, sym, ap, ap₂, subst, ◌∙◌}
+use mathlib.Core.Path.{◌≡◌, sym, ap, ◌∙◌}
 use mathlib.Core.Bool.{false}
-use mathlib.Core.List.{List, ◌++◌}
-use Prim.Native.Nat.{ℕ, ◌≤◌, ◌<◌}
+use mathlib.Core.List.{List}
+use Prim.Native.Nat.{ℕ, ◌*◌, ◌≤◌, ◌<◌}
 use native.Mathlib.Omega.{arith}
-use lib.ListN.{length, drop}
-use lib.Seq.{take-append_seam}
+use lib.ListN.{length}
 use Rattle.bits.specs.Bits.{Bytes, byte_count, unpack}
-use Rattle.bits.proofs.Packing.{bytes_take, pack-bytes, unpack-apart}
+use Rattle.bits.specs.Leaves.{put_at}
+use Rattle.bits.proofs.Put.{put-packed}
 use Rattle.fibonacci.proofs.Rows.{encoding-length}
 use Rattle.fibonacci.specs.Encoding.{row_bits, encoding}
 use Rattle.calls.specs.declared.Refusal.{Refusal}
@@ -85,15 +85,13 @@ module _ (m : ℕ) (row before : List ℕ) where
   pub write-refused : (r : Refusal) → Err r ≡ write m row (length before) → before ≡ write_into m row before
   write-refused r e = left e
 
-  -- what putting the row asks, and what it leaves
+  -- what the codeword writer asks, and what it leaves
   module _ (bytes : ℕ) (h : Header) (e : Ok (bytes, h) ≡ write m row (length before)) where
-    pub write-asks : (length row ≤ max_count) × Legal max_number row × (bytes ≡ length (encoding m row)) × (bytes ≤ length before)
-    write-asks = let x = write-is m row (length before) bytes h (sym e) in (x.0.count, x.0.legal, x.1, omega (arith, x.0.fits, x.1))
+    pub write-asks : (length row ≤ max_count) × Legal max_number row × (bytes ≡ byte_count (length (row_bits m row))) × (bytes ≤ length before)
+    write-asks =
+        let x = write-is m row (length before) bytes h (sym e) in
+        (x.0.count, x.0.legal, x.1 ∙ encoding-length m row, omega (arith, x.0.fits, x.1))
 
-    pub write-put : (put : List ℕ) → Bytes (put ++ drop bytes before) → unpack put ≡ unpack (encoding m row)
-        → put ++ drop bytes before ≡ write_into m row before
+    pub write-put : (after : List ℕ) → Bytes before → Bytes after → unpack after ≡ put_at 0 (row_bits m row) (unpack before) → after ≡ write_into m row before
     unfolding encoding
-    write-put put b u =
-        let h : Bytes put = subst Bytes (take-append_seam put (drop bytes before)) (bytes_take (length put) _ b) in
-        let p : put ≡ encoding m row = unpack-apart put (encoding m row) h (pack-bytes (row_bits m row)) u in
-        ap₂ (λ (w : List ℕ) (k : ℕ). w ++ drop k before) p write-asks.2 ∙ left e
+    write-put after hb ha u = put-packed before after 0 (row_bits m row) (omega arith) hb ha u ∙ left e

@@ -54,6 +54,6 @@ pub fn write(order: usize, row: &[u32], out: &mut [u8]) -> Result<(usize, Header
 {
     let order = Order::new(order)?;
     let (bytes, header) = plan(order, row, out.len())?;
-    codeword_writer::put_row(&mut out[..bytes], order, row);
+    codeword_writer::put_row(out, bytes, order, row);
     Ok((bytes, header))
 }

@@ -58,6 +58,12 @@ taken-append {m} {limit} {b} {k} {e} {f} {xs} {ys} x y =
       within = y.within;
     }
 
+-- one more
+pub taken_more : (m limit : ℕ) (b : List Bool) (k e : ℕ) (row : List ℕ) (t n : ℕ) → 1 ≤ m → Taken m limit b k e row
+    → e + t ≤ length b → Codeword m (take t (drop e b)) → n ≡ number m (take t (drop e b)) → is_number limit n ≡ true
+    → Taken m limit b k (e + t) (row ++ (n ∷ []))
+taken_more m limit b k e row t n p r h c is l = taken-append r (taken_one m limit b e t n p h c is l)
+
 -- a number that was taken is legal
 pub taken-number : {m limit : ℕ} {b : List Bool} {k e n : ℕ} → Taken m limit b k e (n ∷ []) → n ≤ limit
 taken-number {m} {limit} {b} {k} {e} {n} t = (number_is limit n t.legal.0).1

@@ -26,21 +26,34 @@ summary_none m from to =
     told-same _ _ refl (unfold row_bits flatten in refl) (sym (ap sum (ap (drop from) (take-nil to) ∙ drop-nil from))) refl
     (unfold row_bits flatten in rw (take-nil from) refl)
 
-module _ (m from to : ℕ) (xs ys : List ℕ) (p : Part) (part : IsPart m from to xs ys p) where
-  -- a part in the span counts
-  total-inside : from ≤ length xs → length xs < to → sum (slice from to (xs ++ ys)) ≡ sum (slice from to xs) + p.sum
-  total-inside f t =
-      rw (part.total, take_all to (xs ++ ys) (part.inside f t), take_all to xs (omega arith), drop-append-le from xs ys f) (sum-append (drop from xs) ys)
+-- a part that is in a span, or is not
+module _ (from to until add : ℕ) (xs ys : List ℕ) (i : ℕ) (l : length xs ≡ i) (few : length (xs ++ ys) ≤ until) where
+  segment-inside : from ≤ i → until ≤ to → sum (slice from to (xs ++ ys)) ≡ sum (slice from to xs) + sum ys
+  segment-inside f t =
+      rw (take_all to (xs ++ ys) (omega arith), take_all to xs (omega (arith, length-append xs ys)), drop-append-le from xs ys (omega arith)) (sum-append (drop from xs) ys)
 
-  -- one before it or behind it does not
-  total-before : length xs < from → sum (slice from to (xs ++ ys)) ≡ sum (slice from to xs)
-  total-before f =
+  segment-before : until ≤ from → sum (slice from to (xs ++ ys)) ≡ sum (slice from to xs)
+  segment-before f =
       let none : (z : List ℕ) → length z ≤ from → slice from to z ≡ [] = λ z h. drop_of_length-le (take to z) {i = from} (omega (arith, length-take to z)) in
-      rw (none (xs ++ ys) (part.before f), none xs (omega arith)) refl
+      rw (none (xs ++ ys) (omega arith), none xs (omega (arith, length-append xs ys))) refl
 
-  total-behind : to ≤ length xs → sum (slice from to (xs ++ ys)) ≡ sum (slice from to xs)
-  total-behind t = rw (take-append-le to xs ys t) refl
+  segment-after : to ≤ i → sum (slice from to (xs ++ ys)) ≡ sum (slice from to xs)
+  segment-after t = rw (take-append-le to xs ys (omega arith)) refl
 
+  pub segment-more : (old : ℕ) → old ≡ sum (slice from to xs) → (i < from → until ≤ from) → (from ≤ i → i < to → until ≤ to)
+      → (from ≤ i → i < to → add ≡ sum ys) → (i < from → add ≡ 0) → (to ≤ i → add ≡ 0) → old + add ≡ sum (slice from to (xs ++ ys))
+  segment-more old is u v inside before after =
+      elim (dec_le from i) [
+        | yes f ↦
+            elim (dec_le to i) [
+              | yes t ↦ omega (arith, after t, segment-after t)
+              | no t ↦ omega (arith, inside f (omega arith), segment-inside f (v f (omega arith)))
+            ]
+        | no f ↦ omega (arith, before (omega arith), segment-before (u (omega arith)))
+      ]
+
+-- what is told with it
+module _ (m from to : ℕ) (xs ys : List ℕ) (p : Part) (part : IsPart m from to xs ys p) where
   -- the span begins behind all numbers,
   start-behind : length (xs ++ ys) ≤ from → length (row_bits m (take from (xs ++ ys))) ≡ p.bits
   start-behind h = ap (λ (r : List ℕ). length (row_bits m r)) (take_all from (xs ++ ys) h) ∙ sym part.end
@@ -64,14 +77,8 @@ module _ (m from to : ℕ) (xs ys : List ℕ) (p : Part) (part : IsPart m from t
       let all : f.all ≡ sum xs = ap (λ (g : Summary). g.all) e in
       let begin : f.start ≡ length (row_bits m (take from xs)) = ap (λ (g : Summary). g.start) e in
       told-same _ _ (omega (arith, part.many, length-append xs ys)) part.end
-      (elim (dec_le from (length xs)) [
-        | yes a ↦
-            elim (dec_le to (length xs)) [
-              | yes b ↦ omega (arith, total-behind b, counts.2 (omega arith))
-              | no b ↦ omega (arith, total-inside a (omega arith), counts.0 (omega arith) (omega arith))
-            ]
-        | no a ↦ omega (arith, total-before (omega arith), counts.1 (omega arith))
-      ])
+      (segment-more from to (length (xs ++ ys)) counted xs ys f.count (sym count) (omega arith) f.total total (λ h. part.before (omega arith))
+      (λ a b. part.inside (omega arith) (omega arith)) (λ a b. counts.0 a b ∙ part.total) counts.1 counts.2)
       (omega (arith, part.total, sum-append xs ys))
       (elim (dec_le (length (xs ++ ys)) from) [
         | yes a ↦ omega (arith, start-behind a, far (omega (arith, part.many, length-append xs ys)))

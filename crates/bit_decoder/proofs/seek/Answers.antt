@@ -10,24 +10,21 @@ use Rattle.bit_decoder.proofs.seek.Goals.{then-bit+else-run-m, else-bit}
 
 pub loop-k-init : goal.loop-k-init
 loop-k-init c =
-    let e = c.args.encoding in
     record {
-      few = omega (arith, e.order.in_use);
-      seeking = seeking-start _ _ _ (omega (arith, c.requires, unpack-length e.bytes.now));
+      few = omega (arith, c.args.order.in_use);
+      seeking = seeking-start _ _ _ (omega (arith, c.requires.within, unpack-length c.args.s.now));
     }
 
 pub returns-then-run-m : goal.returns-then-run-m
 returns-then-run-m c =
-    let e = c.args.encoding in
     let v = c.loop-k.invariant in
-    let inside : c.loop-k.k < length (unpack e.bytes.now) = omega (arith, unpack-length e.bytes.now) in
+    let inside : c.loop-k.k < length (unpack c.args.s.now) = omega (arith, unpack-length c.args.s.now) in
     seeking-ended (seeking-one v.seeking (omega arith) inside v.few (sym c.bit.ensures ∙ c.if-bit.true)) (omega arith) (omega arith)
 
 pub loop-k-preserved : goal.loop-k-preserved
 loop-k-preserved c =
-    let e = c.args.encoding in
     let v = c.loop-k.invariant in
-    let inside : c.loop-k.k < length (unpack e.bytes.now) = omega (arith, unpack-length e.bytes.now) in
+    let inside : c.loop-k.k < length (unpack c.args.s.now) = omega (arith, unpack-length c.args.s.now) in
     elim c.if-bit.branch [
       | then-bit+else-run-m w ↦
           record {
@@ -46,6 +43,5 @@ loop-k-preserved c =
 
 pub returns : goal.returns
 returns c =
-    let e = c.args.encoding in
     let v = c.loop-k.invariant in
-    seeking-left v.seeking (omega (arith, v.few)) v.few (omega (arith, c.requires, unpack-length e.bytes.now))
+    seeking-left v.seeking (omega (arith, v.few)) v.few (omega (arith, c.requires.within, unpack-length c.args.s.now))

@@ -5,6 +5,6 @@ use Rattle.bit_decoder.proofs.seek.Given as goal
 
 abbrev pub invariant-loop-k : goal.invariant-loop-k
 invariant-loop-k l = record {
-  few : l.run < l.encoding.order.m;
-  seeking : Seeking l.encoding.order.m (unpack l.encoding.bytes.now) l.from l.k l.len l.val l.run;
+  few : l.run < l.order.m;
+  seeking : Seeking l.order.m (unpack l.s) l.from l.k l.len l.val l.run;
 }

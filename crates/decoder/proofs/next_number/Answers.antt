@@ -33,11 +33,11 @@ returns-then-not-is_number c = λ row g.
     let e = c.args.encoding in
     let r = c.in-Codeword.ensures in
     step-large e.bytes.now e.order.in_use g r.0 r.1 c.number-n.result c.number-n.ensures (omega arith) c.if-count-eq-MAX_COUNT.false
-    (sym c.is_number.ensures ∙ c.if-not-is_number.true)
+    (sym (rw c.from.ensures at c.is_number.ensures) ∙ c.if-not-is_number.true)
 
 pub returns-else-not-is_number : goal.returns-else-not-is_number
 returns-else-not-is_number c = λ row g.
     let e = c.args.encoding in
     let r = c.in-Codeword.ensures in
     step-number e.bytes.now e.order.in_use g r.0 r.1 c.number-n.result c.number-n.ensures (omega arith) c.if-count-eq-MAX_COUNT.false
-    (sym c.is_number.ensures ∙ c.if-not-is_number.false)
+    (sym (rw c.from.ensures at c.is_number.ensures) ∙ c.if-not-is_number.false)

@@ -39,7 +39,7 @@ pub returns-then-not-is_number : goal.returns-then-not-is_number
 returns-then-not-is_number c =
     rw (← c.in_ok-order.ensures.0)
     (plan-number _ _ _ _ _ _ _ c.in_ok-order.order.in_use (omega arith) (read (goal.at.returns-then-not-is_number c).In_ok-told) (omega arith)
-    (sym c.if-not-is_number.ensures))
+    (sym (rw c.from.ensures at c.if-not-is_number.ensures)))
 
 -- the number at the place is part of what was told
 part : (c : Else-place-told) → Replaceable c.in_ok-order.order.m c.in_ok-told.told
@@ -50,7 +50,7 @@ pub bit_length-old-requires : goal.bit_length-old-requires
 bit_length-old-requires c = let r = part (goal.at.bit_length-old-requires c).Else-place-told in (r.some, r.legal)
 
 pub codeword-word-requires : goal.codeword-word-requires
-codeword-word-requires c = number_is _ _ (sym c.if-not-is_number.ensures)
+codeword-word-requires c = number_is _ _ (sym (rw c.from.ensures at c.if-not-is_number.ensures))
 
 pub overflow_sub-header : goal.overflow_sub-header
 overflow_sub-header c = omega (arith, c.bit_length-old.ensures, (part (goal.at.overflow_sub-header c).Else-place-told).codeword_part)
@@ -63,16 +63,16 @@ overflow_sub-header-2 c = (part (goal.at.overflow_sub-header-2 c).Else-place-tol
 
 pub overflow_add-header-2 : goal.overflow_add-header-2
 overflow_add-header-2 c =
-    omega (arith, (part (goal.at.overflow_add-header-2 c).Else-place-told).total, number_is _ _ (sym c.if-not-is_number.ensures))
+    omega (arith, (part (goal.at.overflow_add-header-2 c).Else-place-told).total, number_is _ _ (sym (rw c.from.ensures at c.if-not-is_number.ensures)))
 
 pub returns-then-bytes-buf : goal.returns-then-bytes-buf
 returns-then-bytes-buf c =
     rw (← c.in_ok-order.ensures.0)
     (plan-room _ _ _ _ _ _ _ c.in_ok-order.order.in_use (omega arith) (read (goal.at.returns-then-bytes-buf c).In_ok-told) (omega arith)
-    c.saturating_add-next.ensures (sym c.if-not-is_number.ensures) _ c.codeword-word.result c.bit_length-old.ensures.0 c.codeword-word.ensures (omega arith))
+    c.saturating_add-next.ensures (sym (rw c.from.ensures at c.if-not-is_number.ensures)) _ c.codeword-word.result c.bit_length-old.ensures.0 c.codeword-word.ensures (omega arith))
 
 pub returns : goal.returns
 returns c =
     rw (← c.in_ok-order.ensures.0)
     (plan-done _ _ _ _ _ _ _ c.in_ok-order.order.in_use (omega arith) (read (goal.at.returns c).In_ok-told) (omega arith)
-    c.saturating_add-next.ensures (sym c.if-not-is_number.ensures) _ c.codeword-word.result c.bit_length-old.ensures.0 c.codeword-word.ensures (omega arith))
+    c.saturating_add-next.ensures (sym (rw c.from.ensures at c.if-not-is_number.ensures)) _ c.codeword-word.result c.bit_length-old.ensures.0 c.codeword-word.ensures (omega arith))

@@ -15,19 +15,19 @@ pub returns-then-not-is_number-clause-taken : goal.returns-then-not-is_number-cl
 returns-then-not-is_number-clause-taken c =
     let e = c.args.self.now.encoding in (
       refl,
-      large-number e.order.in_use c.in_ok-window.ensures e.limit _ c.number-n.ensures.is (omega arith) (sym c.is_number.ensures ∙ c.if-not-is_number.true),
+      large-number e.order.in_use c.in_ok-window.ensures e.limit _ c.number-n.ensures.is (omega arith) (sym (rw c.from.ensures at c.is_number.ensures) ∙ c.if-not-is_number.true),
     )
 
 pub overflow_shl-self : goal.overflow_shl-self
 overflow_shl-self c =
     let e = c.args.self.now.encoding in
-    let legal = sym c.is_number.ensures ∙ c.if-not-is_number.false in
+    let legal = sym (rw c.from.ensures at c.is_number.ensures) ∙ c.if-not-is_number.false in
     omega (arith, size-less e.order.in_use c.in_ok-window.ensures e.limit _ c.number-n.ensures.is (omega arith) legal)
 
 pub overflow_shl-self-2 : goal.overflow_shl-self-2
 overflow_shl-self-2 c =
     let e = c.args.self.now.encoding in
-    let legal = sym c.is_number.ensures ∙ c.if-not-is_number.false in
+    let legal = sym (rw c.from.ensures at c.is_number.ensures) ∙ c.if-not-is_number.false in
     omega (arith, size-less e.order.in_use c.in_ok-window.ensures e.limit _ c.number-n.ensures.is (omega arith) legal)
 
 pub invariant_of-self : goal.invariant_of-self
@@ -44,9 +44,9 @@ pub returns-clause-taken : goal.returns-clause-taken
 returns-clause-taken c =
     let e = c.args.self.now.encoding in
     rw c.m.ensures
-    (number-taken e.order.in_use c.in_ok-window.ensures e.limit _ c.number-n.ensures.is (omega arith) (sym c.is_number.ensures ∙ c.if-not-is_number.false))
+    (number-taken e.order.in_use c.in_ok-window.ensures e.limit _ c.number-n.ensures.is (omega arith) (sym (rw c.from.ensures at c.is_number.ensures) ∙ c.if-not-is_number.false))
 
 pub returns-clause-few : goal.returns-clause-few
 returns-clause-few c =
-    let legal = number_is c.args.self.now.encoding.limit c.number-n.result (sym c.is_number.ensures ∙ c.if-not-is_number.false) in
+    let legal = number_is c.args.self.now.encoding.limit c.number-n.result (sym (rw c.from.ensures at c.is_number.ensures) ∙ c.if-not-is_number.false) in
     omega (arith, legal)
