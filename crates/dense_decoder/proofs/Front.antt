@@ -1,35 +1,41 @@
 -- The codeword at the front of bytes, by the continuers and the stopper that it is made of.
-use mathlib.Core.Path.{◌≡◌, refl, sym, ap, ◌∙◌}
+use mathlib.Core.Path.{◌≡◌, refl, sym, ap, subst, ◌∙◌}
 use mathlib.Core.List.{List, [], ◌∷◌, ◌++◌, append_assoc, map}
 use Prim.Native.Nat.{ℕ, zero, suc, ◌+◌, ◌-◌, ◌*◌, ◌≤◌, ◌<◌}
 use native.Mathlib.Omega.{arith}
 use native.Mathlib.Nat.{le-mul_of_pos_right, mul-le-mul}
 use native.Mathlib.Decide.{dec_le}
 use lib.ListN.{length, get_or, drop, length-append, length-drop}
-use lib.Seq.{get_or-drop}
+use lib.Seq.{drop-drop, drop-length, get_or-drop}
 use Rattle.std.specs.Prelude.{Option, None}
 use Rattle.lists.proofs.Lists.{drop-next}
-use Rattle.lists.proofs.Each.{all_append}
+use Rattle.lists.proofs.Each.{all_append, all_drop}
 use Rattle.calls.specs.Limits.{max_number}
-use Rattle.codes.specs.Parse.{Parse, codewords}
-use Rattle.codes.proofs.Parse.{prepend-codewords}
+use Rattle.codes.specs.Parse.{Parse, codewords, rest}
+use Rattle.codes.proofs.Parse.{prepend-codewords, prepend-rest}
 use Rattle.dense.specs.Code.{number}
 use Rattle.dense.specs.Encoding.{Rest, parse, numbers}
 use Rattle.dense.specs.Limits.{Stoppers, continuers}
 use Rattle.dense.specs.Leaves.{index}
 use Rattle.dense.proofs.Numbers.{index-append, index-grows, number-index}
 use Rattle.dense.proofs.Parse.{parse-stem}
-use Rattle.dense_decoder.specs.Leaves.{Finished, Numbered, Front, FrontAfter}
+use Rattle.dense_decoder.specs.Leaves.{Finished, FinishedFrom, Numbered, Front, FrontAfter}
 
 -- ## Continuers and a stopper
 
-front-is : (s : ℕ) (u : List ℕ) (z : ℕ) (t : List ℕ) → Rest s u → z < s
-    → let c = continuers s in numbers s c (u ++ (z ∷ t)) ≡ suc (index s c 0 u * s + z) ∷ numbers s c t
-unfolding numbers
-front-is s u z t go stop =
-    let c : ℕ = continuers s in
-    ap (λ (x : Parse ℕ). map (number s c) (codewords x)) (parse-stem s u z t go stop) ∙ ap (map (number s c)) (prepend-codewords (u ++ (z ∷ [])) (parse s t))
-    ∙ ap (λ (n : ℕ). n ∷ map (number s c) (codewords (parse s t))) (number-index s c u z)
+module _ (s : ℕ) (u : List ℕ) (go : Rest s u) (z : ℕ) (t : List ℕ) (stop : z < s) where
+  abbrev c : ℕ
+  c = continuers s
+
+  pub front-is : (numbers s c (u ++ (z ∷ t)) ≡ suc (index s c 0 u * s + z) ∷ numbers s c t) × (rest (parse s (u ++ (z ∷ t))) ≡ rest (parse s t))
+  unfolding numbers
+  front-is =
+      let p = parse-stem s u z t go stop in
+      let w : List ℕ = u ++ (z ∷ []) in (
+        ap (λ (x : Parse ℕ). map (number s c) (codewords x)) p ∙ ap (map (number s c)) (prepend-codewords w (parse s t))
+            ∙ ap (λ (n : ℕ). n ∷ map (number s c) (codewords (parse s t))) (number-index s c u z),
+        ap rest p ∙ prepend-rest w (parse s t),
+      )
 
 -- bytes with a stopper have a first one
 first-stopper : (s : ℕ) (l : List ℕ) (j : ℕ) → j < length l → get_or l j 0 < s
@@ -46,53 +52,79 @@ first-stopper s (x ∷ l) (suc j) h e =
 
 -- ## From a place on
 
-module _ (s : ℕ) (b : List ℕ) (f : Finished s b) (i : ℕ) (h : i < length b) where
-  -- a continuer is not the last byte
-  pub finished-later : {x : ℕ} → x ≡ get_or b i 0 → s ≤ x → i + 1 < length b
-  finished-later e go =
-      elim (dec_le (length b) (i + 1)) [
-        | yes l ↦ let last : length b - 1 ≡ i = omega arith in absurd (omega (arith, ap (λ (k : ℕ). get_or b k 0) last))
-        | no l ↦ omega arith
+module _ (s : ℕ) (b : List ℕ) (i : ℕ) (f : FinishedFrom s b i) where
+  pub finished-within : i < length b
+  finished-within = omega (arith, f.1, f.2)
+
+  pub finished-later : (x : ℕ) → x ≡ get_or b i 0 → s ≤ x → FinishedFrom s b (i + 1)
+  finished-later x e go =
+      elim (dec_le (i + 1) f.0) [
+        | yes l ↦ (f.0, l, f.2, f.3)
+        | no l ↦ let same : f.0 ≡ i = omega (arith, f.1) in absurd (omega (arith, ap (λ (k : ℕ). get_or b k 0) same, f.3))
       ]
 
-  finished-first : (u : List ℕ) × (z : ℕ) × (t : List ℕ) × (drop i b ≡ u ++ (z ∷ t)) × Rest s u × (z < s)
+  pub finished-first : (u : List ℕ) × (z : ℕ) × (t : List ℕ) × (drop i b ≡ u ++ (z ∷ t)) × Rest s u × (z < s)
   finished-first =
-      let at : i + (length b - 1 - i) ≡ length b - 1 = omega arith in
-      first-stopper s (drop i b) (length b - 1 - i) (omega (arith, length-drop i b)) (rw (get_or-drop i b (length b - 1 - i) 0, at) f)
+      let at : i + (f.0 - i) ≡ f.0 = omega (arith, f.1) in
+      first-stopper s (drop i b) (f.0 - i) (omega (arith, f.1, f.2, length-drop i b)) (rw (get_or-drop i b (f.0 - i) 0, at) f.3)
 
   -- a codeword is there
   pub finished-some : (n : ℕ) × (ns : List ℕ) × (numbers s (continuers s) (drop i b) ≡ n ∷ ns)
-  finished-some = let (u, z, t, e, go, stop) = finished-first in (_, _, ap (numbers s (continuers s)) e ∙ front-is s u z t go stop)
+  finished-some = let (u, z, t, e, go, stop) = finished-first in (_, _, ap (numbers s (continuers s)) e ∙ (front-is s u go z t stop).0)
+
+-- if the last byte is a stopper, there is one from every place on, and a continuer is not the last byte
+module _ (s : ℕ) (b : List ℕ) (f : Finished s b) (i : ℕ) (h : i < length b) where
+  pub finished-from : FinishedFrom s b i
+  finished-from = (length b - 1, omega arith, omega arith, f)
+
+  pub finished-next : {x : ℕ} → x ≡ get_or b i 0 → s ≤ x → i + 1 < length b
+  finished-next {x} e go = finished-within s b (i + 1) (finished-later s b i finished-from x e go)
+
+-- no byte is a stopper of none, and one more in front is a continuer
+pub rest-none : (s : ℕ) (b : List ℕ) → Rest s (drop (length b) b)
+rest-none s b = rw (drop-length b) tt
+
+pub rest_more : (s : ℕ) (b : List ℕ) (end x : ℕ) → 1 ≤ end → end ≤ length b → x ≡ get_or b (end - 1) 0 → s ≤ x → Rest s (drop end b) → Rest s (drop (end - 1) b)
+rest_more s b end x h l e go more = let at : end - 1 + 1 ≡ end = omega arith in rw (drop-next b (end - 1) 0 (omega arith) e, at) (go, more)
+
+-- bytes without a stopper have none later
+pub rest-later : (s : ℕ) (b : List ℕ) (i end : ℕ) → end ≤ i → Rest s (drop end b) → Rest s (drop i b)
+rest-later s b i end h a =
+    let at : end + (i - end) ≡ i = omega arith in
+    subst (Rest s) (drop-drop (i - end) end b ∙ ap (λ (k : ℕ). drop k b) at) (all_drop (λ x. s ≤ x) (i - end) (drop end b) a)
 
 -- ## What is found
 
 module _ (s limit : ℕ) (b u : List ℕ) (go : Rest s u) where
   -- the codeword ends with x at place i, its number is that after m, and it may be above the limit
-  front-number : (i x m : ℕ) (r : Option (ℕ × ℕ)) → i < length b → x ≡ get_or b i 0 → x < s → m ≡ index s (continuers s) 0 u * s + x
+  pub front-number : (i x m : ℕ) (r : Option (ℕ × ℕ)) → i < length b → x ≡ get_or b i 0 → x < s → m ≡ index s (continuers s) 0 u * s + x
       → Numbered m (i + 1) limit r → Front s limit b (u ++ drop i b) r
   front-number i x m r h e stop is told =
+      let f = front-is s u go x (drop (i + 1) b) stop in
       let at = drop-next b i 0 h e in
       let after : suc (index s (continuers s) 0 u * s + x) ≡ m + 1 = omega arith in
-      let ns =
-      ap (λ (l : List ℕ). numbers s (continuers s) (u ++ l)) at ∙ front-is s u x (drop (i + 1) b) go stop
-      ∙ ap (λ (k : ℕ). k ∷ numbers s (continuers s) (drop (i + 1) b)) after in
+      let ns = ap (λ (l : List ℕ). numbers s (continuers s) (u ++ l)) at ∙ f.0 ∙ ap (λ (k : ℕ). k ∷ numbers s (continuers s) (drop (i + 1) b)) after in
       elim (dec_le limit m) [
         | yes l ↦ rw (told.1 l) (m + 1, numbers s (continuers s) (drop (i + 1) b), ns, omega arith)
-        | no l ↦ rw (told.0 (omega arith)) (omega arith, omega arith, omega (arith, length-append u (drop i b), ap length at), ns)
+        | no l ↦
+            rw (told.0 (omega arith)) (
+              omega arith,
+              omega arith,
+              omega (arith, length-append u (drop i b), ap length at),
+              ns,
+              ap (λ (l : List ℕ). rest (parse s (u ++ l))) at ∙ f.1,
+            )
       ]
 
 -- a string that is at the limit or above it is in no legal number, whatever follows
-front-past : (s limit : ℕ) (b : List ℕ) (i y : ℕ) → Stoppers s → Finished s b → i < length b → limit ≤ y → FrontAfter s limit b i y None
-front-past s limit b i y o f inside h u before is =
+pub front-past : (s limit : ℕ) (b : List ℕ) (i y : ℕ) → 1 ≤ s → s ≤ 254 → FinishedFrom s b i → limit ≤ y → FrontAfter s limit b i y None
+front-past s limit b i y ps hs more h u before is =
     let c : ℕ = continuers s in
-    let (v, z, t, e, go, stop) = finished-first s b f i inside in
+    let (v, z, t, e, go, stop) = finished-first s b i more in
+    let f = front-is s (u ++ v) (all_append (λ x. s ≤ x) u v before go) z t stop in
     let joined : u ++ drop i b ≡ (u ++ v) ++ (z ∷ t) = ap (λ (l : List ℕ). u ++ l) e ∙ sym (append_assoc u v (z ∷ t)) in
-    let grows : y ≤ index s c 0 (u ++ v) = rw (index-append s c 0 u v, ← is) (index-grows s c y v (omega (arith, o))) in (
-      suc (index s c 0 (u ++ v) * s + z),
-      numbers s c t,
-      ap (numbers s c) joined ∙ front-is s (u ++ v) z t (all_append (λ x. s ≤ x) u v before go) stop,
-      omega (arith, le-mul_of_pos_right {m = s} (index s c 0 (u ++ v)) o.0),
-    )
+    let grows : y ≤ index s c 0 (u ++ v) = rw (index-append s c 0 u v, ← is) (index-grows s c y v (omega arith)) in
+    (suc (index s c 0 (u ++ v) * s + z), numbers s c t, ap (numbers s c) joined ∙ f.0, omega (arith, le-mul_of_pos_right {m = s} (index s c 0 (u ++ v)) ps))
 
 -- ## Byte by byte
 
@@ -135,7 +167,7 @@ module _ (s : ℕ) (b : List ℕ) (from y : ℕ) where
 
     -- the string is at the limit
     pub passed-past : (limit : ℕ) → Stoppers s → Finished s b → i < length b → limit ≤ z → FrontAfter s limit b from y None
-    passed-past limit o f h l = passed-front limit None (front-past s limit b i z o f h l)
+    passed-past limit o f h l = passed-front limit None (front-past s limit b i z o.0 o.1 (finished-from s b f i h) l)
 
 -- ## The first bytes
 

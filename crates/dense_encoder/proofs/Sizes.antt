@@ -127,69 +127,86 @@ module _ (s c : ℕ) (ps : 1 ≤ s) (pc : 1 ≤ c) (k : ℕ) where
 -- ## Measuring a row, length by length
 
 -- so many bytes, at most `reached` of each codeword; the first number that has more is next, and so many numbers have one more
-pub record Sized (s : ℕ) (row : List ℕ) (bytes next more : ℕ) : Type 0 where
+pub record Sized (s c : ℕ) (row : List ℕ) (bytes next more : ℕ) : Type 0 where
   pub reached : ℕ
-  pub is : bytes ≡ capped s (continuers s) reached row
-  pub span : next ≡ first s (continuers s) reached
-  pub size : more ≡ s * continuers s ^ reached
+  pub is : bytes ≡ capped s c reached row
+  pub span : next ≡ first s c reached
+  pub size : more ≡ s * c ^ reached
   pub step : more ≤ 256 * next
   pub some : 1 ≤ more
-  pub stoppers : Stoppers s
-  pub legal : Legal max_number row
 
-pub sized-start : (s : ℕ) (row : List ℕ) → Stoppers s → Legal max_number row → Sized s row (length row) (s + 1) (s * continuers s)
+pub sized-start : (s c : ℕ) (row : List ℕ) → 1 ≤ s → 1 ≤ c → c ≤ 256 → Sized s c row (length row) (s + 1) (s * c)
 unfolding first
-sized-start s row o legal =
-    let c : ℕ = continuers s in
-    let small : c ≤ 256 = omega arith in
-    let some : 1 ≤ c = omega (arith, o) in
+sized-start s c row ps pc h =
     record {
       reached = 1;
       is = sym (capped-one s c row);
       span = omega (arith, ap (λ (x : ℕ). s * x) (pow-zero c));
       size = omega (arith, ap (λ (x : ℕ). s * x) (pow-suc c 0), ap (λ (x : ℕ). s * (x * c)) (pow-zero c));
-      step = omega (arith, mul-le-mul_left s small);
-      some = one-le-mul o.0 some;
-      stoppers = o;
-      legal = legal;
+      step = omega (arith, mul-le-mul_left s h);
+      some = one-le-mul ps pc;
     }
 
-module _ {s : ℕ} {row : List ℕ} {bytes next more : ℕ} (z : Sized s row bytes next more) where
-  abbrev c : ℕ
-  c = continuers s
-
-  some : 1 ≤ c
-  some = omega (arith, z.stoppers)
-
+module _ {s c : ℕ} {row : List ℕ} {bytes next more : ℕ} (z : Sized s c row bytes next more) (ps : 1 ≤ s) (pc : 1 ≤ c) (legal : Legal max_number row) where
   module _ {low longer : ℕ} (at : low ≡ next) (counted : longer ≡ count_from low row) where
     reaching : longer ≡ count_from (first s c z.reached) row
     reaching = counted ∙ ap (λ (x : ℕ). count_from x row) (at ∙ z.span)
 
     -- so many numbers reach one length more
     one_more : bytes + longer ≡ capped s c (suc z.reached) row
-    one_more = omega (arith, z.is, reaching, capped-more s c z.stoppers.0 some z.reached row (positive max_number row z.legal))
+    one_more = omega (arith, z.is, reaching, capped-more s c ps pc z.reached row (positive max_number row legal))
 
-    pub sized-few : bytes + longer ≤ 25 * length row
-    sized-few = omega (arith, one_more, capped-few s c (suc z.reached) row, encoding-long s row z.stoppers.0 z.stoppers.1 z.legal)
+    pub sized-few : bytes + longer ≤ length (encoding s c row)
+    sized-few = omega (arith, one_more, capped-few s c (suc z.reached) row)
 
-    pub sized-more : Sized s row (bytes + longer) (next + more) (more * c)
+    pub sized-more : c ≤ 256 → Sized s c row (bytes + longer) (next + more) (more * c)
     unfolding first
-    sized-more =
-        let small : c ≤ 256 = omega arith in
+    sized-more h =
         record {
           reached = suc z.reached;
           is = one_more;
           span = omega (arith, z.span, z.size);
           size = omega (arith, ap (λ (x : ℕ). x * c) z.size, ap (λ (x : ℕ). s * x) (pow-suc c z.reached));
-          step = omega (arith, mul-le-mul_left more small);
-          some = one-le-mul z.some some;
-          stoppers = z.stoppers;
-          legal = z.legal;
+          step = omega (arith, mul-le-mul_left more h);
+          some = one-le-mul z.some pc;
         }
 
     -- none reaches it
     pub sized-none : longer ≡ 0 → bytes ≡ length (encoding s c row)
-    sized-none e = z.is ∙ capped-all s c z.stoppers.0 some z.reached row (positive max_number row z.legal) (sym reaching ∙ e)
+    sized-none e = z.is ∙ capped-all s c ps pc z.reached row (positive max_number row legal) (sym reaching ∙ e)
 
   pub sized-end : max_number < next → bytes ≡ length (encoding s c row)
-  sized-end h = z.is ∙ capped-end s c z.stoppers.0 some z.reached row z.legal (omega (arith, z.span))
+  sized-end h = z.is ∙ capped-end s c ps pc z.reached row legal (omega (arith, z.span))
+
+-- with c of an operation: what is measured, and that it may be
+pub record Measured (s : ℕ) (row : List ℕ) (bytes next more : ℕ) : Type 0 where
+  pub sized : Sized s (continuers s) row bytes next more
+  pub step : more ≤ 256 * next
+  pub some : 1 ≤ more
+  pub stoppers : Stoppers s
+  pub legal : Legal max_number row
+
+pub measured-start : (s : ℕ) (row : List ℕ) → Stoppers s → Legal max_number row → Measured s row (length row) (s + 1) (s * continuers s)
+measured-start s row o legal =
+    let z = sized-start s (continuers s) row o.0 (omega (arith, o)) (omega arith) in
+    record { sized = z; step = z.step; some = z.some; stoppers = o; legal = legal }
+
+module _ {s : ℕ} {row : List ℕ} {bytes next more : ℕ} (m : Measured s row bytes next more) where
+  some : 1 ≤ continuers s
+  some = omega (arith, m.stoppers)
+
+  module _ {low longer : ℕ} (at : low ≡ next) (counted : longer ≡ count_from low row) where
+    pub measured-few : bytes + longer ≤ 25 * length row
+    measured-few =
+        omega (arith, sized-few m.sized m.stoppers.0 some m.legal at counted, encoding-long s row m.stoppers.0 m.stoppers.1 m.legal)
+
+    pub measured-more : Measured s row (bytes + longer) (next + more) (more * continuers s)
+    measured-more =
+        let z = sized-more m.sized m.stoppers.0 some m.legal at counted (omega arith) in
+        record { sized = z; step = z.step; some = z.some; stoppers = m.stoppers; legal = m.legal }
+
+    pub measured-none : longer ≡ 0 → bytes ≡ length (encoding s (continuers s) row)
+    measured-none = sized-none m.sized m.stoppers.0 some m.legal at counted
+
+  pub measured-end : max_number < next → bytes ≡ length (encoding s (continuers s) row)
+  measured-end = sized-end m.sized m.stoppers.0 some m.legal

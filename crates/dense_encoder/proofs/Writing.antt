@@ -12,9 +12,9 @@ use Rattle.calls.specs.Limits.{max_number, max_count, check_each}
 use Rattle.calls.proofs.Writing.{Write, Writable, written_is, written-accepts, written-asked, written_count, written-number, written-room}
 use Rattle.dense.specs.Encoding.{encoding}
 use Rattle.dense.specs.Limits.{is_stoppers, Stoppers, continuers}
-use Rattle.dense.proofs.Limits.{is-stoppers}
+use Rattle.dense.proofs.Limits.{stoppers-is, is-stoppers}
 use Rattle.dense_encoder.specs.Writing.{write_dense, write_dense_into}
-use Rattle.dense_encoder.specs.Leaves.{Checked}
+use Rattle.dense_encoder.specs.Leaves.{Checked, Fits}
 use Rattle.std.specs.Prelude.{Ok, Err}
 
 module _ (s : ℕ) (row : List ℕ) where
@@ -76,8 +76,10 @@ module _ (s : ℕ) (row : List ℕ) where
 
     -- what putting the row asks, and what it leaves
     module _ (n : ℕ) (e : Ok n ≡ write_dense s row (length before)) where
-      pub write-asks : Checked row × (n ≡ length bytes) × (n ≤ length before)
-      write-asks = let x = write-is (length before) n (sym e) in ((x.0.count, x.0.legal), x.1, omega (arith, x.0.fits, x.1))
+      pub write-asks : Fits s row n (length before)
+      write-asks =
+          let x = write-is (length before) n (sym e) in
+          (stoppers-is s x.0.asked, (x.0.count, x.0.legal), x.1, omega (arith, x.0.fits, x.1))
 
       pub write-put : {put : List ℕ} → put ≡ bytes → put ++ drop n before ≡ write_dense_into s row before
-      write-put p = ap₂ (λ (w : List ℕ) (k : ℕ). w ++ drop k before) p write-asks.1 ∙ left e
+      write-put p = ap₂ (λ (w : List ℕ) (k : ℕ). w ++ drop k before) p write-asks.2 ∙ left e

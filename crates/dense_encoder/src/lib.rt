@@ -19,9 +19,10 @@ use dense::Stoppers;
 fn check_each(row: &[u32]) -> Result<(), Refusal>
     ensures { result ≡ check_each BadNumber max_number 0 row.now (Ok tt) }
 {
-    let first = row
-        .iter()
-        .position(|&n| !calls::is_number(u64::from(n), u64::from(calls::MAX_NUMBER)));
+    let first = row.iter().position(|&n| !calls::is_number(
+        u64::from(n),
+        u64::from(calls::MAX_NUMBER),
+    ));
     match first {
         Some(place) => Err(Refusal::BadNumber(place)),
         None => Ok(()),

@@ -16,7 +16,7 @@ pub bounds-out-at : goal.bounds-out-at
 bounds-out-at c = omega (arith, some (goal.at.bounds-out-at c).Start)
 
 pub loop-y-init : goal.loop-y-init
-loop-y-init c = putting-start _ _ _ _ _ _ (some (goal.at.loop-y-init c).Start) c.s-s.ensures c.divide-y.ensures
+loop-y-init c = putting-start _ _ _ _ _ _ _ (some (goal.at.loop-y-init c).Start) (omega arith) c.s-s.ensures c.divide-y.ensures
 
 pub overflow_sub-at-in-loop-y : goal.overflow_sub-at-in-loop-y
 overflow_sub-at-in-loop-y c = putting-room c.loop-y.invariant c.loop-y-test.true c.requires.1
@@ -26,7 +26,7 @@ bounds-out-at-in-loop-y c = omega (arith, putting-room c.loop-y.invariant c.loop
 
 pub loop-y-preserved : goal.loop-y-preserved
 loop-y-preserved c =
-    putting-more c.loop-y.invariant _ _ c.loop-y-test.true c.requires.1 c.s-s.ensures c.continuers-c.ensures c.divide-before.ensures
+    putting-more c.loop-y.invariant _ _ c.loop-y-test.true c.requires.1 (omega arith) c.s-s.ensures c.continuers-c.ensures c.divide-before.ensures
 
 pub returns : goal.returns
 returns c = putting-end c.loop-y.invariant (omega arith)

@@ -14,7 +14,7 @@ returns-in_err-bytes c =
     rw (p.1, p.2, ← c.in_ok-stoppers.ensures.0) (c.in_err-bytes.ensures, write-refused _ _ _ _ c.in_err-bytes.ensures)
 
 pub slice_bounds-put_row-end : goal.slice_bounds-put_row-end
-slice_bounds-put_row-end c = (write-asks _ _ _ _ c.in_ok-bytes.ensures).2
+slice_bounds-put_row-end c = (write-asks _ _ _ _ c.in_ok-bytes.ensures).3
 
 pub slice_bounds-put_row-end-2 : goal.slice_bounds-put_row-end-2
 slice_bounds-put_row-end-2 c = omega (arith, write-asks _ _ _ _ c.in_ok-bytes.ensures, length-take {A = ℕ})
@@ -22,7 +22,7 @@ slice_bounds-put_row-end-2 c = omega (arith, write-asks _ _ _ _ c.in_ok-bytes.en
 pub put_row-requires : goal.put_row-requires
 put_row-requires c =
     let x = write-asks _ _ _ _ c.in_ok-bytes.ensures in
-    (x.0, omega (arith, x, length-take {A = ℕ}))
+    (x.1, omega (arith, x, length-take {A = ℕ}))
 
 pub returns : goal.returns
 returns c =

@@ -1,5 +1,5 @@
 use Rattle.std.proofs.Common.{arith, ◌+◌, ◌*◌, ◌<◌, length}
-use Rattle.dense_decoder.proofs.Front.{Passed, finished-later, passed_none, passed-more, passed-number, passed-past}
+use Rattle.dense_decoder.proofs.Front.{Passed, finished-next, passed_none, passed-more, passed-number, passed-past}
 use Rattle.dense_decoder.proofs.Codewords.finish.Goals as goal
 use Rattle.dense_decoder.proofs.Codewords.finish.Goals.{Else-last-s, After-from}
 
@@ -13,7 +13,7 @@ returns-then-last-s c =
 
 -- the byte at hand is a continuer: another comes, and it makes the next string
 later : (c : Else-last-s) → c.loop-b.i + 1 < length c.args.self.bytes.now
-later c = finished-later _ _ c.args.self.finished _ c.loop-b.invariant.inside c.from-last.ensures (omega arith)
+later c = finished-next _ _ c.args.self.finished _ c.loop-b.invariant.inside c.from-last.ensures (omega arith)
 
 next : (c : After-from) → Passed c.args.self.stoppers.s c.args.self.bytes.now c.args.from c.args.y (c.loop-b.i + 1) (c.loop-b.string * c.from-c.result + c.from.result)
 next c =

@@ -1,11 +1,11 @@
 use Rattle.std.proofs.Common.{arith, ◌+◌, ◌<◌, length}
-use Rattle.dense_decoder.proofs.Front.{finished-later, front-one, front-two, front-more}
+use Rattle.dense_decoder.proofs.Front.{finished-next, front-one, front-two, front-more}
 use Rattle.dense_decoder.proofs.Codewords.next.Goals as goal
 use Rattle.dense_decoder.proofs.Codewords.next.Goals.{Else-first-s}
 
 -- the first byte is a continuer, and another comes
 second : (c : Else-first-s) → c.args.i + 1 < length c.args.self.bytes.now
-second c = finished-later _ _ c.args.self.finished _ c.requires c.from-first.ensures (omega arith)
+second c = finished-next _ _ c.args.self.finished _ c.requires c.from-first.ensures (omega arith)
 
 pub returns-then-first-s : goal.returns-then-first-s
 returns-then-first-s c = front-one _ _ _ _ _ c.requires c.from-first.ensures _ (omega arith) c.numbered.ensures
