@@ -50,6 +50,13 @@ impl Cursor {
     }
 }
 
+// Whether a string is a node of the tree of 1 .. limit.
+pub fn is_node(order: usize, limit: u64, v: Cursor) -> bool
+    ensures { result ≡ node_test order limit v }
+{
+    v.ones < order && v.next <= limit
+}
+
 impl Tree {
     // The check that building and the questions begin with, of a row of `len` numbers up to `alphabet`.
     #[tactic(auto, using(calls::proofs::Checks::number_is))]
@@ -73,7 +80,7 @@ impl Tree {
     pub fn is_node(self, v: Cursor) -> bool
         ensures { result ≡ node_test self.order.m self.limit v }
     {
-        v.ones < self.order.m() && v.next <= u64::from(self.limit)
+        is_node(self.order.m(), u64::from(self.limit), v)
     }
 
     // The string with a bit more.
