@@ -1,7 +1,7 @@
 // The pruned Wavelet tree of the row index, walked: nothing of it is stored, as it follows from the order and the alphabet.
 #![tactic(auto)]
 
-ghost use Rattle.std.specs.Prelude.{◌≡◌, true, ◌-◌, ◌≤◌, ◌<◌, MatchResult};
+ghost use Rattle.std.specs.Prelude.{◌≡◌, true, ◌-◌, ◌≤◌, ◌<◌, IfOk, MatchResult};
 ghost use Rattle.bits.specs.Bits.{bit_of};
 ghost use Rattle.calls.specs.Limits.{is_number};
 ghost use Rattle.wavelet.specs.Questions.{max_alphabet, check_tree};
@@ -61,7 +61,8 @@ impl Tree {
     // The check that building and the questions begin with, of a row of `len` numbers up to `alphabet`.
     #[tactic(auto, using(calls::proofs::Checks::number_is))]
     pub fn new(order: usize, alphabet: u32, len: usize) -> Result<Tree, Refusal>
-        ensures { MatchResult result (λ t. (t.order.m ≡ order) × (t.limit ≡ alphabet) × Passed order alphabet len) (λ r. check_tree order alphabet len (Ok alphabet) ≡ Err r) }
+        ensures checked { MatchResult result (λ _. Passed order alphabet len) (λ r. check_tree order alphabet len (Ok alphabet) ≡ Err r) }
+        ensures tree { IfOk result (λ t. (t.order.m ≡ order) × (t.limit ≡ alphabet)) }
     {
         let order = Order::new(order)?;
         if !calls::is_number(u64::from(alphabet), u64::from(MAX_ALPHABET)) {

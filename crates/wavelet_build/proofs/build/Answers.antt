@@ -21,11 +21,11 @@ filled : (c : In_ok-numbers)
 filled c = filled_is _ _ _ _ _ c.in_ok-numbers.ensures
 
 legal : (c : In_ok-numbers) → Legal c.args.alphabet c.args.row.now
-legal c = rw (← c.in_ok-tree.ensures.1) (filled c).1
+legal c = rw (← c.in_ok-tree.ensures.tree.1) (filled c).1
 
 -- the row fits the words
 within : (c : In_ok-numbers) → c.in_ok-numbers.numbers ≤ length c.fill.new.words
-within c = omega (arith, (filled c).0, c.in_ok-tree.ensures.2.count, c.fill.auto.words)
+within c = omega (arith, (filled c).0, c.in_ok-tree.ensures.checked.count, c.fill.auto.words)
 
 -- the bitmaps are written
 built : (c : After-write_bitmaps-bits)
@@ -34,18 +34,18 @@ built : (c : After-write_bitmaps-bits)
     × (unpack c.write_bitmaps-bits.new.out ≡ sets (unpack (replicate max_index_bytes 0)) 0 (bitmaps a.order a.alphabet a.row.now))
 built c =
     let d = filled (goal.at.After-write_bitmaps-bits c).In_ok-numbers in
-    rw (← c.in_ok-tree.ensures.0, ← c.in_ok-tree.ensures.1) (c.write_bitmaps-bits.ensures.written c.args.row.now (positive _ _ d.1) d.2)
+    rw (← c.in_ok-tree.ensures.tree.0, ← c.in_ok-tree.ensures.tree.1) (c.write_bitmaps-bits.ensures.written c.args.row.now (positive _ _ d.1) d.2)
 
 pub returns-in_err-tree : goal.returns-in_err-tree
 returns-in_err-tree c =
     let p = err_from_is_err_and c.from_residual.result c.from_residual.ensures.1 in
-    rw (p.1, p.2) (build-refused _ _ _ _ _ c.in_err-tree.ensures)
+    rw (p.1, p.2) (build-refused _ _ _ _ _ c.in_err-tree.ensures.checked)
 
 pub returns-in_err-numbers : goal.returns-in_err-numbers
 returns-in_err-numbers c =
     let p = err_from_is_err_and c.from_residual-in_err-numbers.result c.from_residual-in_err-numbers.ensures.1 in
     let t = c.in_ok-tree.ensures in
-    rw (p.1, p.2) (build-number _ _ _ _ t.2 _ (rw (← t.1) c.in_err-numbers.ensures.0))
+    rw (p.1, p.2) (build-number _ _ _ _ t.checked _ (rw (← t.tree.1) c.in_err-numbers.ensures.0))
 
 pub slice_bounds-words-end : goal.slice_bounds-words-end
 slice_bounds-words-end c = within c
@@ -61,12 +61,12 @@ write_bitmaps-bits-requires-clause-row c =
 pub returns-then-out-count : goal.returns-then-out-count
 returns-then-out-count c =
     let e = goal.at.returns-then-out-count c in
-    build-room _ _ _ _ c.in_ok-tree.ensures.2 (legal e.In_ok-numbers) c.write_bitmaps-bits.result (built e.After-write_bitmaps-bits).0 (omega arith)
+    build-room _ _ _ _ c.in_ok-tree.ensures.checked (legal e.In_ok-numbers) c.write_bitmaps-bits.result (built e.After-write_bitmaps-bits).0 (omega arith)
 
 pub returns : goal.returns
 returns c =
     let e = goal.at.returns c in
     let b = built e.After-write_bitmaps-bits in
     let n : c.div_ceil-count.result ≡ byte_count c.write_bitmaps-bits.result = omega arith in
-    build-done _ _ _ _ c.in_ok-tree.ensures.2 (legal e.In_ok-numbers) c.write_bitmaps-bits.result b.0 max_index_bytes c.write_bitmaps-bits.new.out _
+    build-done _ _ _ _ c.in_ok-tree.ensures.checked (legal e.In_ok-numbers) c.write_bitmaps-bits.result b.0 max_index_bytes c.write_bitmaps-bits.new.out _
     c.write_bitmaps-bits.ensures.within b.1 (omega arith) (rw n at c.copy.ensures) (λ i. Fits-lt-pow (c.type_inv.out i))
