@@ -1,4 +1,5 @@
-use Rattle.std.proofs.Common.{arith, ◌≡◌, ◌≤◌, length, take, replicate, sym}
+use Rattle.std.proofs.Common.{arith, ◌≡◌, ℕ, ◌≤◌, List, length, take, replicate, sym}
+use Rattle.std.specs.Prelude.{Ok}
 use Rattle.std.proofs.Math.Facts.{Fits-lt-pow}
 use Rattle.std.proofs.lemmas.Result.{err_from_is_err_and}
 use lib.Seq.{sets, length-take-le}
@@ -6,6 +7,7 @@ use Rattle.bits.specs.Bits.{unpack, byte_count}
 use Rattle.calls.proofs.Checks.{positive}
 use Rattle.calls.specs.Limits.{Legal}
 use Rattle.wavelet.specs.Bitmaps.{bitmaps}
+use Rattle.wavelet.specs.Questions.{BuildPromise}
 use Rattle.wavelet.specs.Leaves.{max_index_bytes}
 use Rattle.wavelet_bitmaps.specs.Leaves.{AllAligned}
 use Rattle.wavelet_build.proofs.Filling.{filled_is}
@@ -63,10 +65,15 @@ returns-then-out-count c =
     let e = goal.at.returns-then-out-count c in
     build-room _ _ _ _ c.in_ok-tree.ensures.checked (legal e.In_ok-numbers) c.write_bitmaps-bits.result (built e.After-write_bitmaps-bits).0 (omega arith)
 
+-- the answer is how many bits there are
+as_told : (m N : ℕ) (row before after : List ℕ) (x bits : ℕ) → x ≡ bits → BuildPromise m N row before (Ok bits) after → BuildPromise m N row before (Ok x) after
+as_told m N row before after x bits e p = rw e p
+
 pub returns : goal.returns
 returns c =
     let e = goal.at.returns c in
     let b = built e.After-write_bitmaps-bits in
     let n : c.div_ceil-count.result ≡ byte_count c.write_bitmaps-bits.result = omega arith in
-    build-done _ _ _ _ c.in_ok-tree.ensures.checked (legal e.In_ok-numbers) c.write_bitmaps-bits.result b.0 max_index_bytes c.write_bitmaps-bits.new.out _
-    c.write_bitmaps-bits.ensures.within b.1 (omega arith) (rw n at c.copy.ensures) (λ i. Fits-lt-pow (c.type_inv.out i))
+    as_told _ _ _ _ _ _ _ (omega arith)
+    (build-done _ _ _ _ c.in_ok-tree.ensures.checked (legal e.In_ok-numbers) c.write_bitmaps-bits.result b.0 max_index_bytes c.write_bitmaps-bits.new.out _
+    c.write_bitmaps-bits.ensures.within b.1 (omega arith) (rw n at c.copy.ensures) (λ i. Fits-lt-pow (c.type_inv.out i)))
