@@ -104,6 +104,7 @@ impl<'a> Index<'a> {
     // Where the bitmaps of a node end, once those of the side that a walk has taken have ended at bit `at`; `ones` of the node's own bits are ones.
     // Requires: what `start_of` requires, but in place of the node's bitmap the end of the side in the bytes.
     #[cycle(end_after_end_of_start_of)]
+    #[tactic(auto, using(wavelet::proofs::Walking::closes_now))]
     pub fn end_after(self, v: Cursor, ones: usize, at: usize, one: bool) -> Option<usize>
         requires string { IsCursor self.tree.order.m self.tree.limit v }
         requires node { node_test self.tree.order.m self.tree.limit v ≡ true }
