@@ -2,7 +2,7 @@
 use mathlib.Core.Path.{◌≡◌, sym, ap, ◌∙◌}
 use mathlib.Core.Bool.{Bool, true, false, not}
 use mathlib.Core.List.{List, []}
-use Prim.Native.Nat.{ℕ, ◌+◌, ◌*◌, ◌≤◌, ◌<◌}
+use Prim.Native.Nat.{ℕ, suc, ◌+◌, ◌*◌, ◌≤◌, ◌<◌}
 use native.Mathlib.Omega.{arith}
 use lib.Dec.{ltb}
 use lib.ListN.{length}
@@ -16,7 +16,7 @@ use Rattle.calls.specs.Limits.{is_order, is_number, max_count, Order}
 use Rattle.wavelet.specs.Nodes.{tree}
 use Rattle.wavelet.specs.Bitmaps.{need, exact, is_index}
 use Rattle.wavelet.specs.Questions.{max_alphabet, check_tree, ask}
-use Rattle.wavelet.specs.Leaves.{Passed, Place, Ends, max_index_bytes, Root}
+use Rattle.wavelet.specs.Leaves.{Passed, Place, end_in, Ends, max_index_bytes, Root}
 use Rattle.wavelet.specs.declared.Cursor.{Cursor}
 use Rattle.wavelet.proofs.Depth.{tree-need}
 use Rattle.wavelet.proofs.Exact.{exact_past}
@@ -78,9 +78,11 @@ module _ {m N k : ℕ} (p : Passed m N k) where
       unfolding is_index
       index-short walked = exact_past s (need (tree m N) k (unpack s)) (omega (arith, whole None walked))
 
-      pub index_is : (end : ℕ) → Ends m N v k s 0 (Some end) → is_index m N k s ≡ exact end s
+      -- or they end in them; as a number, both in one
+      pub index_is : (r : Option ℕ) → Ends m N v k s 0 r → is_index m N k s ≡ exact (end_in (8 * length s) r) s
       unfolding is_index
-      index_is end walked =
+      index_is None walked = index-short walked ∙ sym (exact_past s (suc (8 * length s)) (omega arith))
+      index_is (Some end) walked =
           let same : need (tree m N) k (unpack s) ≡ end = omega (arith, (whole (Some end) walked).0) in
           ap (λ (i : ℕ). exact i s) same
 

@@ -2,7 +2,7 @@
 use mathlib.Core.Path.{◌≡◌, refl, sym, ap, ◌∙◌}
 use mathlib.Core.Bool.{Bool, true, false}
 use mathlib.Core.List.{List}
-use Prim.Native.Nat.{ℕ, ◌+◌, ◌-◌, ◌*◌, ◌/◌, ◌%◌, ◌≤◌, ◌<◌}
+use Prim.Native.Nat.{ℕ, suc, ◌+◌, ◌-◌, ◌*◌, ◌/◌, ◌%◌, ◌≤◌, ◌<◌, min}
 use native.Mathlib.Omega.{arith}
 use lib.ListN.{length, take, drop, length-take, length-drop}
 use lib.Seq.{drop-drop}
@@ -13,7 +13,7 @@ use Rattle.bits.proofs.Count.{count-le, count-both}
 use Rattle.bits.proofs.Bytes.{unpack-drop, unpack-take}
 use Rattle.wavelet.specs.Nodes.{Tree, leaf, node}
 use Rattle.wavelet.specs.Bitmaps.{need}
-use Rattle.wavelet.specs.Leaves.{Place}
+use Rattle.wavelet.specs.Leaves.{Place, end_in}
 use Rattle.wavelet.proofs.Trees.{need-none}
 
 -- k bits from bit `at` on, in bytes that hold them
@@ -31,6 +31,11 @@ slice_bits s at k to h =
 -- no more of them are ones than there are
 pub ones_few : (k : ℕ) (b : List Bool) → count true (take k b) ≤ k
 ones_few k b = omega (arith, count-le true (take k b), length-take k b)
+
+-- where bits end, as a number
+pub end_least : (total end : ℕ) (r : Option ℕ) → Place total end r → end_in total r ≡ min end (suc total)
+end_least total end None h = omega arith
+end_least total end (Some x) h = omega arith
 
 -- no numbers, or a leaf
 pub ends-none : (t : Tree) (b : List Bool) (at total : ℕ) → at ≤ total → Place total (at + need t 0 b) (Some at)

@@ -121,10 +121,10 @@ pub starts-now : (m N : ℕ) (v : Cursor) (k c : ℕ) (s : List ℕ) (at : ℕ) 
 starts-now m N v k c s at one h (inl e) = rw e refl
 starts-now m N v k c s at one h (inr (e, all)) = rw e (end_none m N (side_of m v false) (k - c) s (at + k) h (omega arith))
 
-pub closes-now : (m N : ℕ) (v : Cursor) (c : ℕ) (s : List ℕ) (at : ℕ) (one : Bool) → at ≤ 8 * length s → (one ≡ true) ⊎ ((one ≡ false) × (c ≡ 0))
+pub closes_now : (m N : ℕ) (v : Cursor) (c : ℕ) (s : List ℕ) (at : ℕ) (one : Bool) → at ≤ 8 * length s → (one ≡ true) ⊎ ((one ≡ false) × (c ≡ 0))
     → Closes m N v c s at one (Some at)
-closes-now m N v c s at one h (inl e) = rw e refl
-closes-now m N v c s at one h (inr (e, none)) = rw e (end_none m N (side_of m v true) c s at h none)
+closes_now m N v c s at one h (inl e) = rw e refl
+closes_now m N v c s at one h (inr (e, none)) = rw e (end_none m N (side_of m v true) c s at h none)
 
 -- where a side starts is in the bytes too
 pub starts-within : (m N : ℕ) (v : Cursor) (k c : ℕ) (s : List ℕ) (at : ℕ) (one : Bool) (start : ℕ) → IsCursor m N v → node_test m N v ≡ true → at + k ≤ 8 * length s

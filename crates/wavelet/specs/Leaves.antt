@@ -1,5 +1,5 @@
 -- Where a walk down the tree stands, and what the functions that walk find there: for the contracts of those functions. No operation's promise cites it.
-use Rattle.std.specs.Prelude.{◌≡◌, Bool, true, false, ◌&&◌, List, ◌∷◌, ◌++◌, ℕ, suc, ◌+◌, ◌-◌, ◌*◌, ◌≤◌, ◌<◌, leb, ltb, length, get_or, drop, Option, Some, MatchOption}
+use Rattle.std.specs.Prelude.{◌≡◌, Bool, true, false, ◌&&◌, List, ◌∷◌, ◌++◌, ℕ, suc, ◌+◌, ◌-◌, ◌*◌, ◌≤◌, ◌<◌, leb, ltb, length, get_or, drop, Option, Some, None, MatchOption}
 use Rattle.lists.specs.Lists.{filter}
 use Rattle.bits.specs.Bits.{bit_of, unpack}
 use Rattle.calls.specs.Limits.{is_order, is_number, max_count}
@@ -72,6 +72,11 @@ side_of m v true = record { depth = v.depth + 1; next = v.next + F m (v.depth + 
 -- Where bits end, as a place among all the bits that there are; none where they run past these
 abbrev pub Place : ℕ → ℕ → Option ℕ → Type 0
 Place total end r = MatchOption r (total < end) (λ x. (x ≡ end) × (end ≤ total))
+
+-- So as a number: one more than there are bits where they run past them
+abbrev pub end_in : ℕ → Option ℕ → ℕ
+end_in total None = suc total
+end_in total (Some end) = end
 
 -- Where the bitmaps of k numbers below a string end that start at bit `at`, if they do not run past the bytes
 abbrev pub Ends : ℕ → ℕ → Cursor → ℕ → List ℕ → ℕ → Option ℕ → Type 0

@@ -1,7 +1,7 @@
 // The pruned Wavelet tree of the row index, walked: nothing of it is stored, as it follows from the order and the alphabet.
 #![tactic(auto)]
 
-ghost use Rattle.std.specs.Prelude.{◌≡◌, true, ◌-◌, ◌≤◌, ◌<◌, MatchResult};
+ghost use Rattle.std.specs.Prelude.{◌≡◌, true, ◌-◌, ◌≤◌, ◌<◌, IfOk, MatchResult};
 ghost use Rattle.bits.specs.Bits.{bit_of};
 ghost use Rattle.calls.specs.Limits.{is_number};
 ghost use Rattle.wavelet.specs.Questions.{max_alphabet, check_tree};
@@ -50,11 +50,19 @@ impl Cursor {
     }
 }
 
+// Whether a string is a node of the tree of 1 .. limit.
+pub fn is_node(order: usize, limit: u64, v: Cursor) -> bool
+    ensures { result ≡ node_test order limit v }
+{
+    v.ones < order && v.next <= limit
+}
+
 impl Tree {
     // The check that building and the questions begin with, of a row of `len` numbers up to `alphabet`.
     #[tactic(auto, using(calls::proofs::Checks::number_is))]
     pub fn new(order: usize, alphabet: u32, len: usize) -> Result<Tree, Refusal>
-        ensures { MatchResult result (λ t. (t.order.m ≡ order) × (t.limit ≡ alphabet) × Passed order alphabet len) (λ r. check_tree order alphabet len (Ok alphabet) ≡ Err r) }
+        ensures checked { MatchResult result (λ _. Passed order alphabet len) (λ r. check_tree order alphabet len (Ok alphabet) ≡ Err r) }
+        ensures tree { IfOk result (λ t. (t.order.m ≡ order) × (t.limit ≡ alphabet)) }
     {
         let order = Order::new(order)?;
         if !calls::is_number(u64::from(alphabet), u64::from(MAX_ALPHABET)) {
@@ -73,7 +81,7 @@ impl Tree {
     pub fn is_node(self, v: Cursor) -> bool
         ensures { result ≡ node_test self.order.m self.limit v }
     {
-        v.ones < self.order.m() && v.next <= u64::from(self.limit)
+        is_node(self.order.m(), u64::from(self.limit), v)
     }
 
     // The string with a bit more.

@@ -70,14 +70,11 @@ fn write_subtree(
 
 // Writes the bitmaps of a row from the front of a buffer that has room for every index; the words have the codewords of its numbers. The result is how many
 // bits they have.
-// Requires: the codewords of a row that is not too long, which building checks and makes.
-pub fn write_bitmaps(
-    tree: Tree,
-    words: &mut [u32],
-    out: &mut [u8; wavelet::MAX_INDEX_BYTES],
-) -> usize
+// Requires: the codewords of a row that is not too long, and as many bytes as an index has at most, all of which building checks or makes.
+pub fn write_bitmaps(tree: Tree, words: &mut [u32], out: &mut [u8]) -> usize
     requires count { length words.old ≤ max_count }
     requires row { HasRow tree.order.m words.old }
+    requires bytes { length out.old ≡ max_index_bytes }
     ensures within { result ≤ 8 * max_index_bytes }
     ensures written { WritesBitmaps tree.order.m tree.limit words.old out.old result out.new }
 {

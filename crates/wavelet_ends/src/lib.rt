@@ -18,6 +18,30 @@ pub struct Index<'a> {
     pub ghost short: { length bytes.now ≤ max_index_bytes },
 }
 
+// How many ones the bitmap of k bits has that starts at bit `at`. Its bytes are handed on with the offset of its first bit.
+// Requires: a bitmap that does not run past the bytes, which whoever asks has seen, and at most 8,192 bytes, which `Index` says of its own.
+#[tactic(auto, using(wavelet::proofs::Ends::slice_bits, wavelet::proofs::Ends::ones_few))]
+pub fn ones_in(b: &[u8], at: usize, k: usize) -> usize
+    requires bitmap { at + k ≤ 8 * length b.now }
+    requires short { length b.now ≤ max_index_bytes }
+    ensures ones { result ≡ count true (take k (drop at (unpack b.now))) }
+    ensures few { result ≤ k }
+{
+    let from = at / 8;
+    let to = (at + k).div_ceil(8);
+    rank_select::ones_from(&b[from..to], at % 8, k)
+}
+
+// Whether bitmaps that end at bit `end` take exactly the bytes, and the padding after them holds no one.
+// Requires: at most 8,192 bytes, which `Index` says of its own.
+#[tactic(auto, using(wavelet::proofs::Exact::exact_is))]
+pub fn is_exact(b: &[u8], end: usize) -> bool
+    requires { length b.now ≤ max_index_bytes }
+    ensures { result ≡ exact end b.now }
+{
+    end.div_ceil(8) == b.len() && ones_in(b, end, b.len() * 8 - end) == 0
+}
+
 impl<'a> Index<'a> {
     // The check of the bytes' number: no index has more than 8,192.
     pub fn new(tree: Tree, bytes: &'a [u8]) -> Result<Index<'a>, Refusal>
@@ -29,17 +53,14 @@ impl<'a> Index<'a> {
         Ok(Index { tree, bytes })
     }
 
-    // How many ones the bitmap of k bits has that starts at bit `at`. Its bytes are handed on with the offset of its first bit.
+    // How many ones the bitmap of k bits has that starts at bit `at`.
     // Requires: a bitmap that does not run past the bytes, which whoever asks has seen.
-    #[tactic(auto, using(wavelet::proofs::Ends::slice_bits, wavelet::proofs::Ends::ones_few))]
     pub fn ones_in(self, at: usize, k: usize) -> usize
         requires { at + k ≤ 8 * length self.bytes.now }
         ensures ones { result ≡ count true (take k (drop at (unpack self.entry.bytes.now))) }
         ensures few { result ≤ k }
     {
-        let from = at / 8;
-        let to = (at + k).div_ceil(8);
-        rank_select::ones_from(&self.bytes[from..to], at % 8, k)
+        ones_in(self.bytes, at, k)
     }
 
     // Where the bitmaps below a string end that start at bit `at` and are of k numbers, if they do not run past the bytes.
@@ -83,6 +104,7 @@ impl<'a> Index<'a> {
     // Where the bitmaps of a node end, once those of the side that a walk has taken have ended at bit `at`; `ones` of the node's own bits are ones.
     // Requires: what `start_of` requires, but in place of the node's bitmap the end of the side in the bytes.
     #[cycle(end_after_end_of_start_of)]
+    #[tactic(auto, using(wavelet::proofs::Walking::closes_now))]
     pub fn end_after(self, v: Cursor, ones: usize, at: usize, one: bool) -> Option<usize>
         requires string { IsCursor self.tree.order.m self.tree.limit v }
         requires node { node_test self.tree.order.m self.tree.limit v ≡ true }
@@ -97,10 +119,9 @@ impl<'a> Index<'a> {
     }
 
     // Whether bitmaps that end at bit `end` take exactly the bytes, and the padding after them holds no one.
-    #[tactic(auto, using(wavelet::proofs::Exact::exact_is))]
     pub fn is_exact(self, end: usize) -> bool
         ensures { result ≡ exact end self.entry.bytes.now }
     {
-        end.div_ceil(8) == self.bytes.len() && self.ones_in(end, self.bytes.len() * 8 - end) == 0
+        is_exact(self.bytes, end)
     }
 }

@@ -1,7 +1,7 @@
 // The three questions asked of an index, by one walk each.
 #![tactic(auto)]
 
-ghost use Rattle.std.specs.Prelude.{◌≡◌, false, true, MatchResult};
+ghost use Rattle.std.specs.Prelude.{◌≡◌, ◌-◌, false, true, MatchResult};
 ghost use Rattle.calls.specs.declared.Refusal.TheVariants.{OutsideAlphabet};
 ghost use Rattle.calls.specs.Limits.{is_number};
 ghost use Rattle.wavelet.specs.Questions.{extract, rank, select};
@@ -18,6 +18,13 @@ fn check_number(alphabet: u32, n: u32) -> Result<(), Refusal>
     } else {
         Err(Refusal::OutsideAlphabet(0))
     }
+}
+
+// How many uses stand before the j-th, j from 1.
+fn skipped(j: usize) -> usize
+    ensures { result ≡ j - 1 }
+{
+    j.saturating_sub(1)
 }
 
 // The number at place i of the row of `len` numbers up to `alphabet` whose index the bytes are.
@@ -70,7 +77,6 @@ pub fn select(
 ) -> Result<(usize, usize), Refusal>
     ensures { result ≡ select order alphabet len b.now n j }
 {
-    let skipped = j.saturating_sub(1);
     let (place, visits) = wavelet_walk::walk(
         order,
         alphabet,
@@ -78,7 +84,7 @@ pub fn select(
         b,
         Question::Select,
         n,
-        skipped,
+        skipped(j),
     )?;
     check_number(alphabet, n)?;
     if j == 0 {

@@ -73,7 +73,7 @@ module _ {m N k : ℕ} (p : Passed m N k) (s : List ℕ) {v : Cursor} (root : Ro
     (found : Finds m N v k s 0 question x (min i k) (Some r)) where
   -- whether the bytes are an index
   index : is_index m N k s ≡ exact r.end s
-  index = index_is p s root r.end found.0
+  index = index_is p s root (Some r.end) found.0
 
   pub walk-not : exact r.end s ≡ false → Walks m N k s question n i (Err NotAnIndex)
   walk-not e next = ask-not p s next (index ∙ e)

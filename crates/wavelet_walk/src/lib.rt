@@ -104,6 +104,7 @@ impl Question {
 
 // Walks the bitmaps of k numbers below a string, from bit `at` on, with place or use i of those numbers in view, if they do not run past the bytes.
 // Requires: a string of the tree, which is the root or a side of a node, a start in the bytes, and a place in the row, which `walk` checks.
+#[tactic(auto, using(wavelet::proofs::Walking::end_short))]
 fn descend(
     index: Index,
     v: Cursor,

@@ -4,7 +4,7 @@ use native.Mathlib.Omega.{arith}
 use lib.ListN.{length}
 use Rattle.bits.specs.Bits.{unpack}
 use Rattle.bits.proofs.Bytes.{unpack-length}
-use Rattle.wavelet.proofs.Walking.{node-shallow, side-cursor, less, ends-within, starts-within, end_short}
+use Rattle.wavelet.proofs.Walking.{node-shallow, side-cursor, less, ends-within, starts-within}
 use Rattle.wavelet_walk.specs.Leaves.{turn}
 use Rattle.wavelet_walk.proofs.Questions.{view-side}
 use Rattle.wavelet_walk.proofs.Descending.{find-leaf, none-before, none-there, none-after, find-done}
@@ -14,9 +14,6 @@ pub returns-then-not-is_node : goal.returns-then-not-is_node
 returns-then-not-is_node t c =
     let a = c.args in
     find-leaf _ _ a.v _ _ _ a.question a.x a.i c.requires.start c.requires.view (sym c.if-not-is_node.ensures) _ c.at_leaf-result.ensures
-
-pub returns-then-k-index : goal.returns-then-k-index
-returns-then-k-index t c = end_short _ _ c.args.v _ _ _ c.requires.start (sym c.if-not-is_node.ensures) (omega arith)
 
 pub takes_one-one-requires-clause-depth : goal.takes_one-one-requires-clause-depth
 takes_one-one-requires-clause-depth t c =

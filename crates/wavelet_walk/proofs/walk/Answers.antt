@@ -1,4 +1,5 @@
-use mathlib.Core.Path.{sym}
+use mathlib.Core.Path.{◌≡◌, sym}
+use Prim.Native.Nat.{min}
 use native.Mathlib.Omega.{arith}
 use Rattle.wavelet.proofs.Walking.{is-root}
 use Rattle.wavelet.proofs.Answering.{index-short, ask-not}
@@ -14,14 +15,15 @@ pub returns-in_default : goal.returns-in_default
 returns-in_default c next =
     let i = c.in_ok-index.ensures in
     let t = c.in_ok-tree.ensures in
-    ask-not t.2 _ next (index-short t.2 _ c.root.ensures (rw (i.0, t.0, t.1, i.1) at c.in_default.ensures))
+    ask-not t.checked _ next (index-short t.checked _ c.root.ensures (rw (i.0, t.tree.0, t.tree.1, i.1) at c.in_default.ensures))
 
 pub returns-then-not-is_exact : goal.returns-then-not-is_exact
 returns-then-not-is_exact c =
     let a = c.args in
     let i = c.in_ok-index.ensures in
     let t = c.in_ok-tree.ensures in
-    walk-not t.2 _ c.root.ensures a.question _ a.i a.n c.in-Some.found (rw (i.0, t.0, t.1, i.1, c.min.ensures) at c.in-Some.ensures)
+    let place : c.min.result ≡ min a.i a.len = omega arith in
+    walk-not t.checked _ c.root.ensures a.question _ a.i a.n c.in-Some.found (rw (i.0, t.tree.0, t.tree.1, i.1, place) at c.in-Some.ensures)
     (rw i.1 at (sym c.if-not-is_exact.ensures))
 
 pub returns : goal.returns
@@ -29,5 +31,6 @@ returns c =
     let a = c.args in
     let i = c.in_ok-index.ensures in
     let t = c.in_ok-tree.ensures in
-    walk-whole t.2 _ c.root.ensures a.question _ a.i a.n c.in-Some.found (rw (i.0, t.0, t.1, i.1, c.min.ensures) at c.in-Some.ensures)
-    (rw i.1 at (sym c.if-not-is_exact.ensures)) (rw (t.0, t.1, c.from.ensures) at c.target_codeword-x.ensures)
+    let place : c.min.result ≡ min a.i a.len = omega arith in
+    walk-whole t.checked _ c.root.ensures a.question _ a.i a.n c.in-Some.found (rw (i.0, t.tree.0, t.tree.1, i.1, place) at c.in-Some.ensures)
+    (rw i.1 at (sym c.if-not-is_exact.ensures)) (rw (t.tree.0, t.tree.1, c.from.ensures) at c.target_codeword-x.ensures)

@@ -2,13 +2,10 @@ use mathlib.Core.Path.{refl, sym}
 use mathlib.Core.Bool.{true, false}
 use native.Mathlib.Omega.{arith}
 use Rattle.wavelet.specs.Leaves.{side_of}
-use Rattle.wavelet.proofs.Walking.{side-cursor, less, ends-within, end-leaf, end_short, end-cut, end_on, starts-now, closes-now}
+use Rattle.wavelet.proofs.Walking.{side-cursor, less, ends-within, end-leaf, end_short, end-cut, end_on, starts-now}
 use Rattle.wavelet_ends.proofs.Index.+end_after_end_of_start_of.Goals as goal
 
 -- ## Where a node's bitmaps end, after a side
-
-pub end_after-returns-then-one : goal.end_after-returns-then-one
-end_after-returns-then-one t c = closes-now _ _ c.args.v _ _ _ _ c.requires.start c.then-one.either
 
 pub end_after-end_of-requires : goal.end_after-end_of-requires
 end_after-end_of-requires t c =
