@@ -1,4 +1,5 @@
-// What a call answers as six numbers: the papers' answer number, the place, and four results, which are zeros where there are none. The probes go by it.
+// What a call answers as six numbers: the papers' answer number, the place, and four results, which are zeros where there are none. The console and the
+// probes go by it.
 #![tactic(auto)]
 
 ghost use Rattle.std.specs.Prelude.{◌≡◌, Ok, Err};

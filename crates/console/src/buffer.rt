@@ -46,6 +46,16 @@ impl<const N: usize> Buffer<N> {
         self.len = end;
         n == more.len()
     }
+
+    // A byte more: an error where there is no room.
+    pub fn push(&mut self, b: u8) -> fmt::Result {
+        if self.len == N {
+            return Err(fmt::Error);
+        }
+        self.array[self.len] = b;
+        self.len += 1;
+        Ok(())
+    }
 }
 
 impl<const N: usize> fmt::Write for Buffer<N> {

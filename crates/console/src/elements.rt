@@ -15,6 +15,9 @@ pub const GROWN: usize = 6;
 
 pub const MAX_BUFFER: usize = MAX_LIST + GROWN;
 
+// The digits of a byte, one of which stands for four bits.
+const DIGITS: [u8; 16] = *b"0123456789ABCDEF";
+
 // A number of a row, in decimal, or a byte, in two hexadecimal digits.
 pub trait Element: Copy + PartialEq {
     // What a fresh output is filled with, so that what a call leaves alone shows.
@@ -50,7 +53,8 @@ impl Element for u8 {
     }
 
     fn say(self, text: &mut Text) -> fmt::Result {
-        write!(text, "{self:02X}")
+        text.push(DIGITS[usize::from(self / 16)])?;
+        text.push(DIGITS[usize::from(self % 16)])
     }
 }
 
@@ -60,12 +64,12 @@ fn put_run<T: Element>(text: &mut Text, run: &[T]) -> fmt::Result {
     if let [first, ..] = run
         && 10 <= times
     {
-        write!(text, " ")?;
+        text.push(b' ')?;
         first.say(text)?;
         return write!(text, "x{times}");
     }
     for element in run {
-        write!(text, " ")?;
+        text.push(b' ')?;
         element.say(text)?;
     }
     Ok(())
@@ -85,8 +89,7 @@ pub fn put_list<T: Element>(text: &mut Text, list: &[T]) -> fmt::Result {
 // The first bits of bytes.
 pub fn put_bits(text: &mut Text, s: &[u8], count: usize) -> fmt::Result {
     for k in 0..count {
-        let bit = u8::from(bits::bit(s, k));
-        write!(text, "{bit}")?;
+        text.push(if bits::bit(s, k) { b'1' } else { b'0' })?;
     }
     Ok(())
 }

@@ -3,6 +3,7 @@ use crate::buffer::Text;
 use crate::elements;
 use crate::elements::{Element, GROWN, MAX_BUFFER, MAX_LIST, MAX_NUMBERS};
 use crate::words::Words;
+use answers::Answer;
 use calls::Refusal;
 use headers::Header;
 use std::fmt;
@@ -10,98 +11,104 @@ use std::fmt::Write;
 
 // ## What is answered
 
-// The results of an operation.
+// What the results of an operation are.
 #[derive(Clone, Copy)]
-enum Results {
+pub enum Results {
     // Bytes in use with their header, as they were written or would be.
-    Encoding((usize, Header)),
-    Preview((usize, Header)),
-    Header(Header),
+    Encoding,
+    Preview,
+    Header,
     // How many numbers there are, in a row or in bytes, four each.
-    Row(usize),
-    Fours(usize),
-    Bytes(usize),
-    Bits(usize),
-    Total(u64),
+    Row,
+    Fours,
+    Bytes,
+    Bits,
+    Total,
     // What was asked for, and how many nodes were visited.
-    Number((usize, usize)),
-    Uses((usize, usize)),
-    Place((usize, usize)),
+    Number,
+    Uses,
+    Place,
 }
 
-impl fmt::Display for Results {
-    fn fmt<W: fmt::Write>(&self, f: &mut fmt::Formatter<W>) -> fmt::Result {
-        match *self {
-            Results::Encoding((bytes, header)) | Results::Preview((bytes, header)) => {
-                let Header { bits, count, total } = header;
-                write!(
-                    f,
-                    "bytes {bytes}, bits {bits}, count {count}, total {total}"
-                )
-            }
-            Results::Header(header) => {
-                let Header { bits, count, total } = header;
-                write!(f, "bits {bits}, count {count}, total {total}")
-            }
-            Results::Row(count) | Results::Fours(count) => write!(f, "count {count}"),
-            Results::Bytes(bytes) => write!(f, "bytes {bytes}"),
-            Results::Bits(bits) => write!(f, "bits {bits}"),
-            Results::Total(total) => write!(f, "total {total}"),
-            Results::Number((number, visits)) => write!(f, "number {number}, visits {visits}"),
-            Results::Uses((count, visits)) => write!(f, "count {count}, visits {visits}"),
-            Results::Place((place, visits)) => write!(f, "place {place}, visits {visits}"),
+// What an operation answers: the six numbers, and what its results are, or the refusal, which has its words.
+#[derive(Clone, Copy)]
+pub struct Told {
+    numbers: Answer,
+    about: Result<Results, Refusal>,
+}
+
+impl Told {
+    pub fn new<T>(results: Results, answer: Result<T, Refusal>) -> Told
+    where
+        T: Copy,
+        Answer: From<Result<T, Refusal>>,
+    {
+        Told {
+            numbers: Answer::from(answer),
+            about: answer.map(|_| results),
         }
     }
-}
 
-impl Results {
+    pub fn is_refusal(self) -> bool {
+        self.about.is_err()
+    }
+
     // How many elements of an output were written.
     fn written(self) -> Option<usize> {
-        match self {
-            Results::Encoding((n, _)) | Results::Row(n) | Results::Bytes(n) => Some(n),
-            Results::Fours(n) => n.checked_mul(4),
-            Results::Bits(n) => Some(n.div_ceil(8)),
+        let n = usize::try_from(self.numbers.first).ok()?;
+        match self.about.ok()? {
+            Results::Encoding | Results::Row | Results::Bytes => Some(n),
+            Results::Fours => n.checked_mul(4),
+            Results::Bits => Some(n.div_ceil(8)),
             _ => None,
         }
     }
 }
 
-// What an operation answers: its results, or why it refuses.
-type Answer = Result<Results, Refusal>;
-
-// A refusal: its number, its place where paper 01 gives one, and its words.
-pub fn refuse(text: &mut Text, r: Refusal) -> fmt::Result {
-    let (number, place) = r.reason();
-    match r {
-        Refusal::BadNumber(_) | Refusal::TooLarge(_) | Refusal::OutsideAlphabet(_) => write!(
-            text,
-            "NO {number}, place {place}: {r}"
-        ),
-        _ => write!(text, "NO {number}: {r}"),
-    }
-}
-
-fn tell(text: &mut Text, answer: Answer) -> fmt::Result {
-    match answer {
-        Ok(results) => write!(text, "{results}"),
-        Err(r) => refuse(text, r),
+// The results by their names. Of a refusal its number, its place where paper 01 gives one, and its words.
+impl fmt::Display for Told {
+    fn fmt<W: fmt::Write>(&self, f: &mut fmt::Formatter<W>) -> fmt::Result {
+        let Answer {
+            number,
+            place,
+            first,
+            second,
+            third,
+            fourth,
+        } = self.numbers;
+        match self.about {
+            Ok(Results::Encoding | Results::Preview) => write!(
+                f,
+                "bytes {first}, bits {second}, count {third}, total {fourth}"
+            ),
+            Ok(Results::Header) => write!(f, "bits {first}, count {second}, total {third}"),
+            Ok(Results::Row | Results::Fours) => write!(f, "count {first}"),
+            Ok(Results::Bytes) => write!(f, "bytes {first}"),
+            Ok(Results::Bits) => write!(f, "bits {first}"),
+            Ok(Results::Total) => write!(f, "total {first}"),
+            Ok(Results::Number) => write!(f, "number {first}, visits {second}"),
+            Ok(Results::Uses) => write!(f, "count {first}, visits {second}"),
+            Ok(Results::Place) => write!(f, "place {first}, visits {second}"),
+            Err(r @ (Refusal::BadNumber(_) | Refusal::TooLarge(_) | Refusal::OutsideAlphabet(_))) =>
+                write!(f, "NO {number}, place {place}: {r}"),
+            Err(r) => write!(f, "NO {number}: {r}"),
+        }
     }
 }
 
 // The answer, and behind a label the output: the whole where its room was named, else what was written.
 fn tell_with<T: Element>(
     text: &mut Text,
-    answer: Answer,
+    told: Told,
     label: &str,
     whole: bool,
     out: &[T],
 ) -> fmt::Result {
-    tell(text, answer)?;
-    let written = answer.ok().and_then(|results| results.written());
+    write!(text, "{told}")?;
     let shown = if whole {
         Some(out)
     } else {
-        written.and_then(|n| out.get(..n))
+        told.written().and_then(|n| out.get(..n))
     };
     let Some(list) = shown else {
         return Ok(());
@@ -138,41 +145,44 @@ impl Writing {
         }
     }
 
-    fn call(self, mut words: Words, out: &mut [u8]) -> Option<Answer> {
+    fn call(self, mut words: Words, out: &mut [u8]) -> Option<Told> {
         let mut row = [0u32; MAX_LIST];
         let mut bytes = [0u8; MAX_LIST];
         Some(match self {
             Writing::Write => {
                 let order = words.number()?;
                 let row = words.list(&mut row)?;
-                encoder::write(order, row, out).map(Results::Encoding)
+                Told::new(Results::Encoding, encoder::write(order, row, out))
             }
             Writing::TableReadBytes => {
                 let s = words.list(&mut bytes)?;
-                table_decoder::read_bytes(s, out).map(Results::Fours)
+                Told::new(Results::Fours, table_decoder::read_bytes(s, out))
             }
             Writing::DenseWrite => {
                 let stoppers = words.number()?;
                 let row = words.list(&mut row)?;
-                dense_encoder::write(stoppers, row, out).map(Results::Bytes)
+                Told::new(Results::Bytes, dense_encoder::write(stoppers, row, out))
             }
             Writing::Build => {
                 let order = words.number()?;
                 let alphabet = words.number()?;
                 let row = words.list(&mut row)?;
-                wavelet_build::build(order, alphabet, row, out).map(Results::Bits)
+                Told::new(
+                    Results::Bits,
+                    wavelet_build::build(order, alphabet, row, out),
+                )
             }
         })
     }
 
     // Up to 64 bits of the bitmaps of an index are shown as bits too.
-    fn told(self, text: &mut Text, answer: Answer, whole: bool, out: &[u8]) -> fmt::Result {
+    fn tell(self, text: &mut Text, told: Told, whole: bool, out: &[u8]) -> fmt::Result {
         let label = if whole { "output" } else { self.label() };
-        tell_with(text, answer, label, whole, out)?;
-        match answer {
-            Ok(Results::Bits(bits @ 1..=64)) => {
+        tell_with(text, told, label, whole, out)?;
+        match (told.about, told.numbers.first) {
+            (Ok(Results::Bits), bits @ 1..=64) => {
                 write!(text, "; bitmaps ")?;
-                elements::put_bits(text, out, bits)
+                elements::put_bits(text, out, bits as usize)
             }
             _ => Ok(()),
         }
@@ -181,8 +191,8 @@ impl Writing {
     pub fn answer(self, words: Words, room: Option<usize>, text: &mut Text) -> Option<fmt::Result> {
         let mut array = [u8::FRESH; MAX_LIST];
         let out = sized(&mut array, room)?;
-        let answer = self.call(words, out)?;
-        Some(self.told(text, answer, room.is_some(), out))
+        let told = self.call(words, out)?;
+        Some(self.tell(text, told, room.is_some(), out))
     }
 }
 
@@ -196,7 +206,7 @@ pub enum Reading {
 }
 
 impl Reading {
-    fn call(self, mut words: Words, out: &mut [u32]) -> Option<Answer> {
+    fn call(self, mut words: Words, out: &mut [u32]) -> Option<Told> {
         let mut bytes = [0u8; MAX_LIST];
         let count = match self {
             Reading::Read => {
@@ -209,15 +219,15 @@ impl Reading {
                 dense_decoder::read(stoppers, words.list(&mut bytes)?, out)
             }
         };
-        Some(count.map(Results::Row))
+        Some(Told::new(Results::Row, count))
     }
 
     pub fn answer(self, words: Words, room: Option<usize>, text: &mut Text) -> Option<fmt::Result> {
         let mut array = [u32::FRESH; MAX_NUMBERS];
         let out = sized(&mut array, room)?;
-        let answer = self.call(words, out)?;
+        let told = self.call(words, out)?;
         let label = if room.is_some() { "output" } else { "row" };
-        Some(tell_with(text, answer, label, room.is_some(), out))
+        Some(tell_with(text, told, label, room.is_some(), out))
     }
 }
 
@@ -248,12 +258,7 @@ fn begun<'a>(
 
 impl Changing {
     // The answer, and how much of the buffer was lent.
-    fn call(
-        self,
-        mut words: Words,
-        room: Option<usize>,
-        buf: &mut [u8],
-    ) -> Option<(Answer, usize)> {
+    fn call(self, mut words: Words, room: Option<usize>, buf: &mut [u8]) -> Option<(Told, usize)> {
         let order = words.number()?;
         match self {
             Changing::Append => {
@@ -264,30 +269,30 @@ impl Changing {
                 let header = Header { bits, count, total };
                 let (out, _) = begun(words, room, buf)?;
                 let answer = appender::append(order, out, header, n);
-                Some((answer.map(Results::Encoding), out.len()))
+                Some((Told::new(Results::Encoding, answer), out.len()))
             }
             Changing::Replace => {
                 let place = words.number()?;
                 let n = words.number()?;
                 let (out, used) = begun(words, room, buf)?;
                 let answer = replacer::replace(order, out, used, place, n);
-                Some((answer.map(Results::Encoding), out.len()))
+                Some((Told::new(Results::Encoding, answer), out.len()))
             }
             Changing::Preview => {
                 let place = words.number()?;
                 let n = words.number()?;
                 let (out, used) = begun(words, room, buf)?;
                 let answer = replacer::preview(order, out, used, place, n);
-                Some((answer.map(Results::Preview), out.len()))
+                Some((Told::new(Results::Preview, answer), out.len()))
             }
         }
     }
 
     pub fn answer(self, words: Words, room: Option<usize>, text: &mut Text) -> Option<fmt::Result> {
         let mut array = [u8::FRESH; MAX_BUFFER];
-        let (answer, size) = self.call(words, room, &mut array)?;
+        let (told, size) = self.call(words, room, &mut array)?;
         let label = if room.is_some() { "buffer" } else { "encoding" };
-        Some(tell_with(text, answer, label, room.is_some(), array.get(..size)?))
+        Some(tell_with(text, told, label, room.is_some(), array.get(..size)?))
     }
 }
 
@@ -301,31 +306,35 @@ pub enum EncodingQuestion {
 }
 
 impl EncodingQuestion {
-    fn call(self, mut words: Words) -> Option<Answer> {
+    fn call(self, mut words: Words) -> Option<Told> {
         let mut bytes = [0u8; MAX_LIST];
         let order = words.number()?;
         match self {
             EncodingQuestion::Header => {
                 let s = words.list(&mut bytes)?;
-                Some(header_reader::read(order, s).map(Results::Header))
+                Some(Told::new(Results::Header, header_reader::read(order, s)))
             }
             EncodingQuestion::Total => {
                 let from = words.number()?;
                 let to = words.number()?;
                 let s = words.list(&mut bytes)?;
-                Some(totals::total(order, s, from, to).map(Results::Total))
+                Some(Told::new(Results::Total, totals::total(order, s, from, to)))
             }
             EncodingQuestion::RepeatedTotal => {
                 let repeats = words.number()?;
                 let shared = words.number()?;
                 let s = words.list(&mut bytes)?;
-                Some(totals::repeated_total(order, s, repeats, shared).map(Results::Total))
+                Some(Told::new(
+                    Results::Total,
+                    totals::repeated_total(order, s, repeats, shared),
+                ))
             }
         }
     }
 
     pub fn answer(self, words: Words, text: &mut Text) -> Option<fmt::Result> {
-        Some(tell(text, self.call(words)?))
+        let told = self.call(words)?;
+        Some(write!(text, "{told}"))
     }
 }
 
@@ -337,7 +346,7 @@ pub enum IndexQuestion {
 }
 
 impl IndexQuestion {
-    fn call(self, mut words: Words) -> Option<Answer> {
+    fn call(self, mut words: Words) -> Option<Told> {
         let mut bytes = [0u8; MAX_LIST];
         let order = words.number()?;
         let alphabet = words.number()?;
@@ -347,26 +356,27 @@ impl IndexQuestion {
                 let place = words.number()?;
                 let s = words.list(&mut bytes)?;
                 let answer = wavelet_query::extract(order, alphabet, len, s, place);
-                Some(answer.map(Results::Number))
+                Some(Told::new(Results::Number, answer))
             }
             IndexQuestion::Rank => {
                 let n = words.number()?;
                 let place = words.number()?;
                 let s = words.list(&mut bytes)?;
                 let answer = wavelet_query::rank(order, alphabet, len, s, n, place);
-                Some(answer.map(Results::Uses))
+                Some(Told::new(Results::Uses, answer))
             }
             IndexQuestion::Select => {
                 let n = words.number()?;
                 let nth = words.number()?;
                 let s = words.list(&mut bytes)?;
                 let answer = wavelet_query::select(order, alphabet, len, s, n, nth);
-                Some(answer.map(Results::Place))
+                Some(Told::new(Results::Place, answer))
             }
         }
     }
 
     pub fn answer(self, words: Words, text: &mut Text) -> Option<fmt::Result> {
-        Some(tell(text, self.call(words)?))
+        let told = self.call(words)?;
+        Some(write!(text, "{told}"))
     }
 }

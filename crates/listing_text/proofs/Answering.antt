@@ -26,7 +26,7 @@ use Rattle.listing_lines.proofs.Lines.{lines-length}
 use Rattle.listing_text.specs.Listing.{refusal_line, listing_of, listing, printed, text, max_text_bytes, Puts}
 use Rattle.listing_input.proofs.Input.{lines_are}
 use Rattle.listing_text.proofs.Clipping.{listing-same, order_row}
-use Rattle.listing_text.proofs.Printing.{refusal-length, puts_short, puts_done}
+use Rattle.listing_text.proofs.Printing.{refusal-length, puts_short, puts_done, puts_same}
 use Rattle.std.specs.Prelude.{Ok, Err}
 
 -- ## The listing of a row
@@ -35,7 +35,16 @@ pub write_order : (m : ℕ) (row : List ℕ) → is_order m ≡ false → write 
 unfolding write
 write_order m row e = rw e refl
 
--- a row whose encoding has so many bytes
+-- a row whose encoding has so many bytes is listed by its lines, and one that writing refuses by the line of the refusal
+pub list_written : (m : ℕ) (row : List ℕ) (bytes : ℕ) (h : Header) → Ok (bytes, h) ≡ write m row max_bytes → lines m row bytes ≡ printed (listing_of m row)
+unfolding listing_of
+list_written m row bytes h e = rw (← e) refl
+
+pub list-refused : (m : ℕ) (row : List ℕ) (r : Refusal) → Err r ≡ write m row max_bytes → refusal_line (reason r).0 ≡ printed (listing_of m row)
+unfolding listing_of
+list-refused m row r e = rw (← e) refl
+
+-- a row whose encoding has so many bytes, in a buffer
 module _ (m : ℕ) (row : List ℕ) (bytes : ℕ) (h : Header) (e : write m row max_bytes ≡ Ok (bytes, h)) where
   pub list_few : length row ≤ max_count
   list_few = (write-is m row max_bytes bytes h e).0.count
@@ -44,19 +53,20 @@ module _ (m : ℕ) (row : List ℕ) (bytes : ℕ) (h : Header) (e : write m row 
   list_legal = (write-is m row max_bytes bytes h e).0.legal
 
   pub list_short : (before : List ℕ) → length before < 55 + 38 * length row → Puts (printed (listing_of m row)) before (Err NoRoom) before
-  unfolding listing_of
-  list_short before less = rw e (puts_short (lines m row bytes) before (55 + 38 * length row) (lines-length m row bytes) less)
+  list_short before less =
+      let short = puts_short (lines m row bytes) before (55 + 38 * length row) (lines-length m row bytes) less in
+      puts_same _ _ _ _ _ (list_written m row bytes h (sym e)) short
 
   pub list_done : (before after : List ℕ) → 55 + 38 * length row ≤ length before → after ≡ sets before 0 (lines m row bytes)
       → Puts (printed (listing_of m row)) before (Ok (55 + 38 * length row)) after
-  unfolding listing_of
-  list_done before after room put = rw e (puts_done (lines m row bytes) before (55 + 38 * length row) (lines-length m row bytes) after room put)
+  list_done before after room put =
+      let done = puts_done (lines m row bytes) before (55 + 38 * length row) (lines-length m row bytes) after room put in
+      puts_same _ _ _ _ _ (list_written m row bytes h (sym e)) done
 
--- a row that writing refuses
+-- a row that writing refuses, in a buffer
 pub list_refused : (m : ℕ) (row before : List ℕ) (r : Refusal) (answer : Outcome ℕ) (after : List ℕ) → write m row max_bytes ≡ Err r
     → Puts (refusal_line (reason r).0) before answer after → Puts (printed (listing_of m row)) before answer after
-unfolding listing_of
-list_refused m row before r answer after e p = rw e p
+list_refused m row before r answer after e p = puts_same _ _ _ _ _ (list-refused m row r (sym e)) p
 
 -- ## The text of an input
 

@@ -1,7 +1,7 @@
 // The listing of a row (paper 01, "The listing"), from the bytes of the input to those of the output.
 #![tactic(auto)]
 
-ghost use Rattle.std.specs.Prelude.{◌≡◌, Ok, Err, MatchResult};
+ghost use Rattle.std.specs.Prelude.{◌≡◌, Ok, Err, IfOk, IfErr};
 ghost use Rattle.calls.specs.Refusals.{reason};
 ghost use Rattle.calls.specs.Limits.{max_bytes};
 ghost use Rattle.headers.specs.declared.Header.{Header};
@@ -31,7 +31,8 @@ fn refuse(out: &mut [u8], r: Refusal) -> Result<usize, Refusal>
 // The order, and how many bytes the encoding of a row has; or the refusal of writing it. The row is written to a buffer of its own.
 #[tactic(auto, using(crate::proofs::Answering::write_order))]
 fn encoded(order: usize, row: &[u32]) -> Result<(Order, usize), Refusal>
-    ensures { MatchResult result (λ w. (w.0.m ≡ order) × ((h : Header) × (write order row.now max_bytes ≡ Ok (w.1, h)))) (λ r. write order row.now max_bytes ≡ Err r) }
+    ensures accepted { IfOk result (λ w. (w.0.m ≡ order) × ((h : Header) × (write order row.now max_bytes ≡ Ok (w.1, h)))) }
+    ensures refused { IfErr result (λ r. write order row.now max_bytes ≡ Err r) }
 {
     let mut encoding = [0u8; calls::MAX_BYTES];
     let order = Order::new(order)?;
