@@ -53,8 +53,8 @@ fn one_if_reached(order: Order, d: usize, n: u64) -> usize
     usize::from(x != 0 && x <= n)
 }
 
-// How many bits of the codeword of n stand before its last ones: the largest d whose first number is at most n. Requires: a legal number, which `bit_length` and
-// `codeword` show.
+// How many bits of the codeword of n stand before its last ones: the largest d whose first number is at most n. Requires: a legal number, which `bit_length`
+// and `codeword` show.
 fn body_length(order: Order, n: u64) -> usize
     requires { (1 ≤ n) × (n ≤ max_number) }
     ensures { (result + order.m ≡ length (codeword order.m n)) × (result + order.m ≤ 47) }

@@ -61,7 +61,8 @@ saturated-join m j a b x k r s p q =
     (saturated-add (value m j (word_bits a (x / 2 ^ (k + b)))) (value m (j + a) (word_bits b (x / 2 ^ k))) r s p q)
 
 -- a byte more
-pub saturated-byte : (m j a x k r s : ℕ) → Saturated (value m j (word_bits a (x / 2 ^ (k + 8)))) r → s ≡ min max_number (value m (j + a) (word_bits 8 (x / 2 ^ k)))
+pub saturated-byte : (m j a x k r s : ℕ) → Saturated (value m j (word_bits a (x / 2 ^ (k + 8)))) r
+    → s ≡ min max_number (value m (j + a) (word_bits 8 (x / 2 ^ k)))
     → Saturated (value m j (word_bits (a + 8) (x / 2 ^ k))) (r + s)
 saturated-byte m j a x k r s p e = saturated-join m j a 8 x k r s p (saturated-is _ s e)
 

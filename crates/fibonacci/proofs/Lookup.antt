@@ -99,7 +99,8 @@ after-at m n before (x ∷ es) p b e i h = go (leb (sum (take m before)) max_num
     at (suc i) h is small ih = let k : suc (suc n) + i ≡ suc n + suc i = omega arith in ih i (omega arith) ∙ ap (λ (k : ℕ). number_or_zero (F m k)) k
 
     go : (v : Bool) → leb (sum (take m before)) max_number ≡ v
-        → (x ∷ before ≡ past m (suc n) → recurs_after m (x ∷ before) es ≡ true → (i : ℕ) → i < length es → get_or es i 0 ≡ number_or_zero (F m (suc (suc n) + i)))
+        → (x ∷ before ≡ past m (suc n) → recurs_after m (x ∷ before) es ≡ true
+        → (i : ℕ) → i < length es → get_or es i 0 ≡ number_or_zero (F m (suc (suc n) + i)))
         → get_or (x ∷ es) i 0 ≡ number_or_zero (F m (suc n + i))
     go true t ih =
         let r = both (eqb x (sum (take m before))) (recurs_after m (x ∷ before) es) (rw (t, recurs_after) at e) in
@@ -107,7 +108,8 @@ after-at m n before (x ∷ es) p b e i h = go (leb (sum (take m before)) max_num
         at i h is (omega (arith, leb-true (sum (take m before)) max_number t, next)) (ih (longer is) r.1)
     go false t ih =
         let none : sum (x ∷ es) ≡ 0 = eqb-true _ _ (rw (t, recurs_after) at e) in
-        sum-none (x ∷ es) none i ∙ sym (number-zero _ (omega (arith, leb-false (sum (take m before)) max_number t, next, F-rises m p {j = suc n} {k = suc n + i} (omega arith))))
+        let rises : F m (suc n) ≤ F m (suc n + i) = F-rises m p {j = suc n} {k = suc n + i} (omega arith) in
+        sum-none (x ∷ es) none i ∙ sym (number-zero _ (omega (arith, leb-false (sum (take m before)) max_number t, next)))
 
 -- in order 2 what recurs after F(0), 47 entries, are the first numbers
 pub row-order-2 : (row : List ℕ) → length row ≡ 47 → recurs_after 2 (1 ∷ replicate 2 0) row ≡ true → row ≡ table_row (first 2)

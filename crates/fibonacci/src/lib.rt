@@ -53,8 +53,8 @@ impl Order {
         u64::from(row[j])
     }
 
-    // The first numbers, by how many bits stand before the last ones. In order 2, with d bits before the last ones, that is F(d + 1) (paper 02, R-3): the position
-    // values from F(1) on; F(47) is above 4,294,967,295.
+    // The first numbers, by how many bits stand before the last ones. In order 2, with d bits before the last ones, that is F(d + 1) (paper 02, R-3): the
+    // position values from F(1) on; F(47) is above 4,294,967,295.
     fn first_row(self) -> &'static [u32]
         ensures { Holds (first self.m) result.now }
     {
