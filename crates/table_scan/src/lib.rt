@@ -68,12 +68,15 @@ fn judge(place: usize, first: u64, second: u32, third: u32, limit: u32) -> Resul
     Ok(())
 }
 
-// Three numbers from element i on. Requires: a place of a row, which `store` requires.
+// Three numbers from element i on, one by one: copied from an array of the three, they would go over the stack first. Requires: a place of a row, which `store`
+// requires.
 fn put(row: &mut [u32; ROOM], i: usize, first: u32, second: u32, third: u32)
     requires { i < max_count }
     ensures { row.new ≡ sets row.old i (first ∷ second ∷ third ∷ []) }
 {
-    row[i..i + 3].copy_from_slice(&[first, second, third]);
+    row[i] = first;
+    row[i + 1] = second;
+    row[i + 2] = third;
 }
 
 // The numbers that a byte ends, checked, and stored from place `count` on: how many there are then. Requires: a row that is not full, which `walk` checks, and
