@@ -153,7 +153,7 @@ module _ (s : ℕ) (b : List ℕ) (from y : ℕ) where
         }
 
     -- what stands at the front after them stands there before
-    passed-front : (limit : ℕ) (r : Option (ℕ × ℕ)) → FrontAfter s limit b i z r → FrontAfter s limit b from y r
+    pub passed-front : (limit : ℕ) (r : Option (ℕ × ℕ)) → FrontAfter s limit b i z r → FrontAfter s limit b from y r
     passed-front limit r found u before is =
         let c : ℕ = continuers s in
         let e : u ++ drop from b ≡ (u ++ p.bytes) ++ drop i b = ap (λ (l : List ℕ). u ++ l) p.are ∙ sym (append_assoc u p.bytes (drop i b)) in

@@ -32,6 +32,7 @@ fn finished_end(stoppers: Stoppers, b: &[u8]) -> usize
     }
 }
 
+// What is found is always compiled into the loop over the codewords: where it is handed over by a call, a row takes up to four times as long.
 impl<'a> Codewords<'a> {
     // Those of an encoding that are finished.
     fn new(stoppers: Stoppers, limit: u32, b: &'a [u8]) -> Codewords<'a>
@@ -48,6 +49,7 @@ impl<'a> Codewords<'a> {
     }
 
     // The number after `before`, as far as it is within the limit, and the byte after its codeword.
+    #[inline(always)]
     fn numbered(self, before: u64, after: usize) -> Option<(u32, usize)>
         ensures { Numbered before after self.entry.limit result }
     {
@@ -61,6 +63,7 @@ impl<'a> Codewords<'a> {
     // The end of a codeword from a place on, after continuers that are string y, counted from 0, the shorter first. A continuer is a digit, from 1 up: what it
     // is above the highest stopper. Every number is above its string, and so too large where that is at the limit. Requires: a place within the bytes, and a
     // string of 32 bits, which `next` shows.
+    #[inline(always)]
     #[tactic(auto, using(crate::proofs::Front::product_small))]
     fn finish(self, from: usize, y: u64) -> Option<(u32, usize)>
         requires { (from < length self.bytes.now) × (y ≤ max_number) }
@@ -91,6 +94,7 @@ impl<'a> Codewords<'a> {
 
     // What stands from a place on: a number and the byte after its codeword, or none if the number is above the limit. Codewords of one byte and of two are at
     // hand at once. Requires: a place within the bytes, which `store_row` shows.
+    #[inline(always)]
     #[tactic(auto, using(crate::proofs::Front::product_small))]
     fn next(self, i: usize) -> Option<(u32, usize)>
         requires { i < length self.bytes.now }
