@@ -57,7 +57,7 @@ pub fn of_text(mut words: Words, text: &mut Text) -> Option<fmt::Result> {
     }
     let mut input = Input::new();
     for _ in 0..times.min(INPUT_ROOM) {
-        if !input.put(once.bytes()) {
+        if once.is_empty() || !input.put(once.bytes()) {
             break;
         }
     }

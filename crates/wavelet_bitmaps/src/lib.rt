@@ -33,7 +33,7 @@ fn partition(words: &mut [u32], spare: &mut [u32], depth: usize, out: &mut [u8],
         ones += usize::from(one);
     }
     let zeros = words.len() - ones;
-    words[zeros..].copy_from_slice(&spare[..ones]);
+    lists::copy(&mut words[zeros..], spare, ones);
     zeros
 }
 
