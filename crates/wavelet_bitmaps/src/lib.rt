@@ -1,7 +1,7 @@
 // Writing the bitmaps of a row: those below a string of the tree, a node first, then its 0 side, then its 1 side.
 #![tactic(auto)]
 
-ghost use Rattle.std.specs.Prelude.{◌≡◌, false, map, ◌+◌, ◌*◌, ◌^◌, ◌≤◌, ◌<◌, length};
+ghost use Rattle.std.specs.Prelude.{◌≡◌, false, map, ◌+◌, ◌*◌, ◌^◌, ◌≤◌, ◌<◌, ◌++◌, length, take, drop};
 ghost use Rattle.std.proofs.lemmas.List.Edits.{sets};
 ghost use Rattle.bits.specs.Bits.{unpack, count};
 ghost use Rattle.calls.specs.Limits.{max_count};
@@ -9,6 +9,17 @@ ghost use Rattle.wavelet.specs.Leaves.{max_index_bytes};
 ghost use Rattle.wavelet_bitmaps.specs.Leaves.{bit_after, partitioned, room, HasWords, WritesSubtree, HasRow, WritesBitmaps};
 
 use wavelet::{Cursor, Tree};
+
+// The first n words of a list over those of another, one by one: two lists that a caller lends would else be copied by a routine from outside that allows for an
+// overlap. Requires: both lists have so many, which `partition` shows.
+fn copy_words(to: &mut [u32], words: &[u32], n: usize)
+    requires { (n ≤ length words.now) × (n ≤ length to.old) }
+    ensures { to.new ≡ take n words.now ++ drop n to.old }
+{
+    for i in 0..n {
+        to[i] = words[i];
+    }
+}
 
 // A node: writes the next bits of the words' codewords as its bitmap from bit `at` on, and partitions the words by them, those with a 0 first; the result is
 // how many those are. The others go by way of `spare`. No branch goes by a bit, which a processor cannot foretell: each word is stored on both sides, and
@@ -33,7 +44,7 @@ fn partition(words: &mut [u32], spare: &mut [u32], depth: usize, out: &mut [u8],
         ones += usize::from(one);
     }
     let zeros = words.len() - ones;
-    lists::copy(&mut words[zeros..], spare, ones);
+    copy_words(&mut words[zeros..], spare, ones);
     zeros
 }
 

@@ -23,7 +23,7 @@ returns-clause-words c =
     let room : ℕ = length words - zeros in
     let none : drop ones (take room (drop zeros words)) ≡ [] =
     drop_of_length-le (take room (drop zeros words)) {i = ones} (omega (arith, length-take room (drop zeros words))) in
-    partitioned-words c.loop-i.invariant c.loop-i-test.false _ (c.copy.ensures ∙ rw none (append-nil (take ones c.loop-i.spare)))
+    partitioned-words c.loop-i.invariant c.loop-i-test.false _ (c.copy_words.ensures ∙ rw none (append-nil (take ones c.loop-i.spare)))
 
 pub returns-clause-bits : goal.returns-clause-bits
 returns-clause-bits c = partitioned-bits c.loop-i.invariant c.loop-i-test.false
