@@ -20,7 +20,9 @@ struct Codewords<'a> {
     ghost finished: { Finished stoppers.s bytes.now },
 }
 
-// Where the last codeword that is finished ends: behind the last stopper.
+// Where the last codeword that is finished ends: behind the last stopper. It is compiled as a function of its own: beside its loop the one over the codewords
+// is put so that codewords of one byte take a seventh longer.
+#[inline(never)]
 fn finished_end(stoppers: Stoppers, b: &[u8]) -> usize
     ensures within { result ≤ length b.now }
     ensures stops { 0 < result → slice_index b.now (result - 1) < stoppers.s }
