@@ -8,11 +8,13 @@ use native.Mathlib.Numerals.{add-one}
 use lib.ListN.{length, get_or, take, drop, length-append, take-append-drop, drop_of_length-le}
 use lib.Seq.{take-suc, take_all}
 use Rattle.lists.proofs.Lists.{drop-next}
-use Rattle.bits.specs.Bits.{byte_count}
+use Rattle.bits.specs.Bits.{byte_count, unpack}
 use Rattle.bits.specs.Leaves.{put_to, put_at}
+use Rattle.bits.proofs.Bytes.{unpack-length}
+use Rattle.bits.proofs.Packing.{unpack-pack, pack-length}
 use Rattle.bits.proofs.Put.{Filled, filled_none, filled_more, filled-end}
 use Rattle.fibonacci.specs.Code.{codeword}
-use Rattle.fibonacci.specs.Encoding.{row_bits}
+use Rattle.fibonacci.specs.Encoding.{row_bits, encoding}
 use Rattle.fibonacci.proofs.Rows.{bits-append, bits-snoc}
 
 -- ## The number n at place i
@@ -71,3 +73,13 @@ module _ (m : ℕ) (row : List ℕ) (c i at : ℕ) (now old : List Bool) (p : Pu
 
   pub put-end : length row ≤ i → c ≡ byte_count (length (row_bits m row)) → now ≡ put_at 0 (row_bits m row) old
   put-end h e = filled-end (row_bits m row) now old (rw (take_all i row h, e) at p.1)
+
+-- at the end a buffer of exactly the encoding's bytes has the bits of the encoding
+pub put-whole : (m c i at : ℕ) (row out : List ℕ) (old : List Bool) → Put m row c i at (unpack out) old → length row ≤ i → length out ≡ length (encoding m row)
+    → unpack out ≡ unpack (encoding m row)
+unfolding encoding
+put-whole m c i at row out old p h l =
+    let b : List Bool = row_bits m row in
+    let all : take (8 * byte_count (length b)) (unpack out) ≡ unpack out =
+    take_all (8 * byte_count (length b)) (unpack out) (omega (arith, unpack-length out, l, pack-length b)) in
+    sym all ∙ rw (take_all i row h) at p.1.0 ∙ sym (unpack-pack b)

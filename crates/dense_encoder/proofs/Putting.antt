@@ -5,7 +5,7 @@ use Prim.Native.Nat.{ℕ, zero, suc, ◌+◌, ◌-◌, ◌/◌, ◌%◌, ◌≤�
 use native.Mathlib.Omega.{arith}
 use native.Mathlib.Nat.{div-le_self}
 use lib.ListN.{length, get_or, set, take, drop, length-append, length-drop, take-append-drop}
-use lib.Seq.{length-take-le, take-length, drop-length, take-suc, drop-cons, take-take, take-append-le, drop_at, get_or-append_seam}
+use lib.Seq.{length-take-le, take-length, drop-length, take-suc, drop-cons, take-take, take-append-le, take-append_seam, drop_at, get_or-append_seam}
 use Rattle.calls.specs.Limits.{Legal, max_number}
 use Rattle.calls.proofs.Checks.{number_is, legal-at}
 use Rattle.dense.specs.Code.{stem, codeword}
@@ -224,6 +224,16 @@ module _ {s c : ℕ} {row before out : List ℕ} {at : ℕ} {rest : List ℕ} (f
           same = long ∙ f.same;
           fits = omega (arith, long, f.fits);
         }
+
+  -- the codewords of the numbers behind the rest stand from place `at` on, and those of the rest take the bytes before
+  pub behind-is : (drop at out ≡ encoding s c f.put) × (at ≡ length (encoding s c rest))
+  behind-is =
+      let later : drop (length rest) row ≡ f.put = ap (drop (length rest)) f.parts ∙ drop_at rest f.put (length rest) refl in
+      let sooner : take (length rest) row ≡ rest = ap (take (length rest)) f.parts ∙ take-append_seam rest f.put in (
+        ap (drop at) f.filled.is ∙ drop_at (take at before) _ at (length-take-le at before f.filled.fits)
+            ∙ ap₂ (λ (a b : List ℕ). encoding s c a ++ b) later (drop-length before) ∙ append-nil (encoding s c f.put),
+        f.filled.long ∙ ap (λ (l : List ℕ). length (encoding s c l)) sooner,
+      )
 
   pub behind-end : length rest ≡ 0 → out ≡ encoding s c row
   behind-end e =

@@ -1,12 +1,14 @@
 -- What writing answers and leaves behind, check by check.
-use mathlib.Core.Path.{◌≡◌, sym, ap, ◌∙◌}
+use mathlib.Core.Path.{◌≡◌, sym, ap, ap₂, subst, ◌∙◌}
 use mathlib.Core.Bool.{false}
-use mathlib.Core.List.{List}
-use Prim.Native.Nat.{ℕ, ◌*◌, ◌≤◌, ◌<◌}
+use mathlib.Core.List.{List, ◌++◌}
+use Prim.Native.Nat.{ℕ, ◌≤◌, ◌<◌}
 use native.Mathlib.Omega.{arith}
-use lib.ListN.{length}
+use lib.ListN.{length, drop}
+use lib.Seq.{take-append_seam}
 use Rattle.bits.specs.Bits.{Bytes, byte_count, unpack}
 use Rattle.bits.specs.Leaves.{put_at}
+use Rattle.bits.proofs.Packing.{bytes_take, pack-bytes, unpack-apart}
 use Rattle.bits.proofs.Put.{put-packed}
 use Rattle.fibonacci.proofs.Rows.{encoding-length}
 use Rattle.fibonacci.specs.Encoding.{row_bits, encoding}
@@ -95,3 +97,12 @@ module _ (m : ℕ) (row before : List ℕ) where
     pub write-put : (after : List ℕ) → Bytes before → Bytes after → unpack after ≡ put_at 0 (row_bits m row) (unpack before) → after ≡ write_into m row before
     unfolding encoding
     write-put after hb ha u = put-packed before after 0 (row_bits m row) (omega arith) hb ha u ∙ left e
+
+    -- the same where the bits that are put are the encoding's, whatever stood there
+    pub write-whole : (put : List ℕ) → Bytes (put ++ drop bytes before) → unpack put ≡ unpack (encoding m row)
+        → put ++ drop bytes before ≡ write_into m row before
+    unfolding encoding
+    write-whole put b u =
+        let held : Bytes put = subst Bytes (take-append_seam put (drop bytes before)) (bytes_take (length put) _ b) in
+        let same : put ≡ encoding m row = unpack-apart put (encoding m row) held (pack-bytes (row_bits m row)) u in
+        ap₂ (λ (w : List ℕ) (k : ℕ). w ++ drop k before) same (write-is m row (length before) bytes h (sym e)).1 ∙ left e
